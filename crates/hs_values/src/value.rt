@@ -1,0 +1,48 @@
+// SQL values.
+ghost use Rattle.std.specs.Prelude.{◌≡◌, IfOk};
+
+use crate::chars::Chars;
+use std::alloc::AllocError;
+
+/// A decimal number: `units / 10^scale`. The calls of this engine's crates take and give at most
+/// 38 digits of units and a scale of at most 38.
+#[derive(Clone, Copy, Debug, PartialEq, Eq)]
+pub struct Dec {
+    pub units: i128,
+    pub scale: u8,
+}
+
+/// A value of a column.
+#[derive(Debug, Drop)]
+pub enum Value {
+    /// SQL's NULL, which every type has.
+    Null,
+    /// A SMALLINT, an INTEGER or a BIGINT: all are reckoned at 64 bits.
+    Int(i64),
+    /// A DECIMAL.
+    Dec(Dec),
+    /// A VARCHAR.
+    Text(Chars),
+    /// A BOOLEAN.
+    Bool(bool),
+    /// A DATE, as the number of its day: 0 is 1970-01-01 of the proleptic Gregorian calendar.
+    Day(i32),
+    /// A TIMESTAMP, as the microseconds since the beginning of 1970-01-01, without a time zone.
+    Micros(i64),
+}
+
+impl Value {
+    pub fn copy(&self) -> Result<Value, AllocError>
+        ensures { IfOk result (λ copied. copied ≡ self.now) }
+    {
+        match self {
+            Value::Null => Ok(Value::Null),
+            Value::Int(n) => Ok(Value::Int(*n)),
+            Value::Dec(d) => Ok(Value::Dec(*d)),
+            Value::Text(t) => Ok(Value::Text(t.copy()?)),
+            Value::Bool(b) => Ok(Value::Bool(*b)),
+            Value::Day(d) => Ok(Value::Day(*d)),
+            Value::Micros(m) => Ok(Value::Micros(*m)),
+        }
+    }
+}
