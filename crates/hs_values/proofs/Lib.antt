@@ -1,0 +1,4 @@
+pub mod Scales
+pub mod Lawful
+pub mod Rows
+pub mod Stable
