@@ -3,6 +3,7 @@
 
 mod bytes;
 mod chars;
+mod decimal;
 mod fault;
 mod name;
 mod row;
@@ -12,6 +13,7 @@ mod words;
 
 pub use bytes::Bytes;
 pub use chars::Chars;
+pub use decimal::{MOST_DIGITS, checked_decimal, rescale, ten_to};
 pub use fault::EvalFault;
 pub use name::Name;
 pub use row::Row;
