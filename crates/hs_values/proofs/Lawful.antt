@@ -1,5 +1,5 @@
 -- The order of values is a total order.
-use Rattle.std.proofs.Common.{◌≡◌, ℕ, ℤ, pos, ◌*ℤ◌, ◌^◌, Bool, false, List, [], refl, sym, ap, subst, ◌∙◌}
+use Rattle.std.proofs.Common.{◌≡◌, ℕ, ℤ, pos, ◌*ℤ◌, Bool, false, List, [], refl, ap, subst, ◌∙◌}
 use Rattle.std.proofs.Math.IntN.{one, *ℤ-one}
 use Rattle.std.specs.declared.cmp.Ordering.{Ordering}
 use Rattle.std.specs.declared.cmp.Ordering.TheVariants.{Less, Equal, Greater}

@@ -8,9 +8,8 @@ use Rattle.std.specs.Cmp.{IsTotalOrder, int_ranks, int_cmp_is, int_cmp_total, in
 use Rattle.std.proofs.lemmas.Int.{ints, fits_signed_from_abs, unsigned_abs-mul}
 use Rattle.std.specs.Prelude.{unsigned_abs}
 use Rattle.std.proofs.lemmas.Nat.{pow-add}
-use Rattle.std.proofs.Math.Nat.{mul-lt-mul_of_pos_right, pow-le-pow_right, mul_assoc, zero-mul, mul_comm, le-mul_of_pos_right}
+use Rattle.std.proofs.Math.Nat.{mul-lt-mul_of_pos_right, one-le-pow, pow-le-pow_right, mul_assoc, zero-mul, mul_comm, le-mul_of_pos_right}
 use borrow.Author.Differences.{up, down}
-use Rattle.hs_values.specs.declared.value.Dec.{Dec}
 use Rattle.hs_values.specs.Order.{number_cmp}
 
 parts_down : (m : ℕ) → (up (neg_ℤ (pos m)) ≡ 0) × (down (neg_ℤ (pos m)) ≡ m)
@@ -47,7 +46,7 @@ pub compared_times : (a b : ℤ) (k : ℕ) → 0 < k → int_cmp (a *ℤ pos k) 
 compared_times a b k p = sym (int_cmp_is (a *ℤ pos k) (b *ℤ pos k) (int_cmp a b) (ranked_times a b k (int_cmp a b) p (int_ranks a b)))
 
 pub ten_positive : (k : ℕ) → 0 < 10 ^ k
-ten_positive k = let least : 10 ^ 0 ≤ 10 ^ k = pow-le-pow_right {n = 10} (omega arith) {i = 0} (omega arith) in omega arith
+ten_positive k = one-le-pow k 10 (omega arith)
 
 -- fractions, crosswise: a / p to b / q is a * q to b * p
 crossed : (a b c : ℤ) (p q r : ℕ) → int_cmp (a *ℤ pos q) (b *ℤ pos p) ≡ Less → int_cmp (b *ℤ pos r) (c *ℤ pos q) ≡ Less → 0 < p → 0 < q → 0 < r → int_cmp (a *ℤ pos r) (c *ℤ pos p) ≡ Less
@@ -78,11 +77,6 @@ pub raised_cmp : (a b : ℤ) (p q : ℕ) → p ≤ q → int_cmp (a *ℤ pos (10
 raised_cmp a b p q le =
     sym (compared_times (a *ℤ pos (10 ^ (q - p))) b (10 ^ p) (ten_positive p))
     ∙ ap (λ x. int_cmp x (b *ℤ pos (10 ^ p))) (times_times a (10 ^ (q - p)) (10 ^ p) ∙ ap (λ x. a *ℤ pos x) (sym (pow-add 10 (q - p) p) ∙ ap (λ x. 10 ^ x) (omega arith)))
-
-pub ten_fits : (k : ℕ) → k ≤ 38 → FitsSigned w128 (pos (10 ^ k))
-ten_fits k h =
-    let most : 10 ^ k ≤ 10 ^ 38 = pow-le-pow_right {n = 10} (omega arith) h in
-    fits_signed_from_abs w128 (pos (10 ^ k)) (omega arith)
 
 size_of_fitting : (z : ℤ) → FitsSigned w128 z → unsigned_abs z ≤ 2 ^ 127
 size_of_fitting (pos n) h = omega (arith, h.sfits)

@@ -5,22 +5,23 @@ ghost use Rattle.std.specs.Ordering.{int_cmp};
 ghost use Rattle.hs_values.specs.Order.{seen, whole, kind_of, number_cmp, order_of, row_order_of};
 ghost use Rattle.hs_values.specs.Sorted.{sorted_by, sorted_rows};
 
+use crate::decimal::{MOST_DIGITS, ten_to};
 use crate::row::Row;
 use crate::value::{Dec, Value, ValueRef};
 use std::alloc::AllocError;
 use std::cmp::Ordering;
 
-#[tactic(auto, using(crate::proofs::Scales::too_many_noughts, crate::proofs::Scales::ten_fits))]
+#[tactic(auto, using(crate::proofs::Scales::too_many_noughts))]
 /// `units` with so many noughts behind it, where this fits.
 fn with_noughts(units: i128, noughts: u8) -> Option<i128>
     ensures { SomeIff result (FitsSigned w128 (units *ℤ pos (10 ^ noughts))) (units *ℤ pos (10 ^ noughts)) }
 {
     if units == 0 {
         Some(0)
-    } else if noughts > 38 {
+    } else if noughts > MOST_DIGITS {
         None
     } else {
-        units.checked_mul(10i128.pow(u32::from(noughts)))
+        units.checked_mul(ten_to(noughts))
     }
 }
 

@@ -13,15 +13,13 @@ ghost use Rattle.hs_values.specs.Sorted.{sorted_rows};
 pub fn values_are_ordered()
     ensures total { IsTotalOrder order_of }
     ensures itself { (a : Value) → order_of a a ≡ Equal }
-{
-}
+{}
 
 /// So is the order of rows.
 pub fn rows_are_ordered()
     ensures total { IsTotalOrder row_order_of }
     ensures itself { (a : List Value) → row_order_of a a ≡ Equal }
-{
-}
+{}
 
 /// Sorted rows are the same rows, ascending, those that tie as they stood; and no other list is so.
 pub fn rows_have_one_order()
@@ -29,5 +27,4 @@ pub fn rows_have_one_order()
     ensures ascending { (rows : List (List Value)) → IsSorted row_order_of (sorted_rows rows) }
     ensures stable { (rows : List (List Value)) → IsStable row_order_of rows (sorted_rows rows) }
     ensures only { (rows others : List (List Value)) → IsSorted row_order_of others → IsStable row_order_of rows others → others ≡ sorted_rows rows }
-{
-}
+{}
