@@ -1,0 +1,10 @@
+//! Decimal numbers of at most 38 digits: exact sums, differences and products, quotients that are
+//! cut toward zero, and their text.
+#![tactic(auto)]
+
+mod arithmetic;
+mod division;
+
+pub use arithmetic::{add, mul, sub};
+pub use division::div;
+pub use hs_values::rescale;
