@@ -1,2 +1,5 @@
 pub mod LongDivision
+pub mod Numerals
+pub mod PrintedText
 pub mod Signs
+pub mod Spelling

@@ -4,7 +4,12 @@
 
 mod arithmetic;
 mod division;
+mod printing;
+mod reading;
 
 pub use arithmetic::{add, mul, sub};
 pub use division::div;
 pub use hs_values::rescale;
+pub use printing::print;
+pub use reading::read;
+
