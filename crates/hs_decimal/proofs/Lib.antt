@@ -1,5 +1,6 @@
 pub mod LongDivision
 pub mod Numerals
 pub mod PrintedText
+pub mod ReadBack
 pub mod Signs
 pub mod Spelling

@@ -58,7 +58,7 @@ digits_value-append xs ys = joined 0 xs ∙ after_number (digits_value 10 xs) ys
     joined n [] = refl
     joined n (z ∷ zs) = joined (n * 10 + digit_value z) zs
 
-all-append : (xs ys : List ℕ) → AllDigits 10 xs → AllDigits 10 ys → AllDigits 10 (xs ++ ys)
+pub all-append : (xs ys : List ℕ) → AllDigits 10 xs → AllDigits 10 ys → AllDigits 10 (xs ++ ys)
 all-append [] ys all more = more
 all-append (x ∷ xs) ys (digit, all) more = (digit, all-append xs ys all more)
 
@@ -68,5 +68,8 @@ joined xs ys x y ten all more ex ey et = rw (ex, ey, et) (sym (digits_value-appe
 
 pub joined_few : (xs ys : List ℕ) (x y ten : ℕ) → length xs + length ys ≤ 38 → all_ascii_digits xs ≡ true → all_ascii_digits ys ≡ true → x ≡ digits_value 10 xs → y ≡ digits_value 10 ys → ten ≡ 10 ^ length ys → x * ten + y < 10 ^ 38
 joined_few xs ys x y ten few all more ex ey et =
-    omega (arith, joined xs ys x y ten all more ex ey et,
-      few_digits 38 (xs ++ ys) (all-append xs ys (tested.to xs all) (tested.to ys more)) (omega (arith, length-append xs ys)))
+    omega (
+      arith,
+      joined xs ys x y ten all more ex ey et,
+      few_digits 38 (xs ++ ys) (all-append xs ys (tested.to xs all) (tested.to ys more)) (omega (arith, length-append xs ys)),
+    )

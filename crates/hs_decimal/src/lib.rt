@@ -12,4 +12,3 @@ pub use division::div;
 pub use hs_values::rescale;
 pub use printing::print;
 pub use reading::read;
-

@@ -19,6 +19,7 @@ const WIDEST: usize = 41;
 ///
 /// What is printed of a number without a sign, in at most 38 digits, [`read`](crate::read) gives
 /// back.
+#[tactic(auto, using(crate::proofs::ReadBack::read_back))]
 pub fn print(a: Dec, out: &mut Chars) -> Result<(), EvalFault>
     requires { IsDecimal a }
     ensures ok { OnOk result (out.new ≡ out.old ++ text_of a) }

@@ -10,5 +10,5 @@ push_str-requires c =
 pub returns : goal.returns
 returns c =
     padded_from c.args.text.now.bytes c.loop.text.bytes c.format-digits.result.now _ c.args.places c.args.number c.loop.counter c.format-digits.ensures.text
-      (filled c.format-digits.result.now c.args.places c.args.number c.loop.counter c.format-digits.ensures.text c.requires.some c.requires.fits (omega arith) c.loop.auto.counter-end c.loop-test.false)
-      c.loop.invariant.zeros c.push_str.ensures.bytes
+    (filled c.format-digits.result.now c.args.places c.args.number c.loop.counter c.format-digits.ensures.text c.requires.some c.requires.fits (omega arith) c.loop.auto.counter-end c.loop-test.false)
+    c.loop.invariant.zeros c.push_str.ensures.bytes

@@ -1,4 +1,4 @@
-use Rattle.std.proofs.Common.{arith, subst, take_all}
+use Rattle.std.proofs.Common.{arith, take_all}
 use Rattle.hs_decimal.proofs.Numerals.{all_more, value_more, still_few, not_all, tested}
 use Rattle.hs_decimal.proofs.reading.digits_number.Goals as goal
 

@@ -9,7 +9,7 @@ use Rattle.hs_decimal.proofs.reading.number.Goals as goal
 few : (c : goal.After-unsigned_abs) → c.in_ok-before.before * c.unsigned_abs.result + c.in_ok-behind.behind < 10 ^ 38
 few c =
     joined_few c.args.digits.now c.args.fraction.now c.in_ok-before.before c.in_ok-behind.behind c.unsigned_abs.result
-      (omega arith) (grind arith) (grind arith) (grind arith) (grind arith) (grind arith)
+    (omega arith) (grind arith) (grind arith) (grind arith) (grind arith) (grind arith)
 
 pub overflow_mul-units : goal.overflow_mul-units
 overflow_mul-units c = omega (arith, few c)
@@ -23,6 +23,6 @@ overflow_cast-result c = narrow (pos (c.in_ok-before.before * c.unsigned_abs.res
 pub returns : goal.returns
 returns c =
     number_of_digits c.args.digits.now c.args.fraction.now _ (grind arith) (omega arith) (grind arith) (grind arith)
-      (to_z_pos w128 (omega (arith, few c)) ∙ ap pos
-        (joined c.args.digits.now c.args.fraction.now c.in_ok-before.before c.in_ok-behind.behind c.unsigned_abs.result
-          (grind arith) (grind arith) (grind arith) (grind arith) (grind arith)))
+    (to_z_pos w128 (omega (arith, few c)) ∙ ap pos
+    (joined c.args.digits.now c.args.fraction.now c.in_ok-before.before c.in_ok-behind.behind c.unsigned_abs.result
+    (grind arith) (grind arith) (grind arith) (grind arith) (grind arith)))
