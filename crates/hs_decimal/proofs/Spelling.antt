@@ -125,5 +125,5 @@ is_spelled text d is =
       | inr two ↦ after_point text d two.0 two.1 two.2
     ]
 
-pub spelled : (text : List ℕ) (d : Dec) → (read_of text ≡ Some d) ↔ Spells text d
-spelled text d = (is_spelled text d, is_read text d)
+pub spelled : (text : List ℕ) (answer : Option Dec) → answer ≡ read_of text → (d : Dec) → (answer ≡ Some d) ↔ Spells text d
+spelled text answer is d = (λ found. is_spelled text d (sym is ∙ found), λ spells. is ∙ is_read text d spells)

@@ -9,7 +9,7 @@ use hs_values::{Dec, MOST_DIGITS, ten_to};
 /// The number that a text spells: digits, or digits with one point and at least one digit behind
 /// it, of at most 38 digits in all, as they are written. Its scale is the number of digits behind
 /// the point. `None` exactly where the text is no such number; one with a sign is none.
-#[tactic(auto, using(crate::proofs::Spelling::spelled), unfolding(crate::specs::Text::read_of))]
+#[tactic(auto, unfolding(crate::specs::Text::read_of))]
 pub fn read(text: &str) -> Option<Dec>
     ensures value { result ≡ read_of text.now }
     ensures spelled { (d : Dec) → (result ≡ Some d) ↔ Spells text.now d }
