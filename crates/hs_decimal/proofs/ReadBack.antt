@@ -1,14 +1,14 @@
 -- What is printed of a number without a sign is read as that number.
-use Rattle.std.proofs.Common.{◌≡◌, ℕ, zero, suc, ◌+◌, ◌-◌, ◌*◌, ◌/◌, ◌%◌, ◌^◌, ◌<◌, ◌≤◌, List, [], ◌∷◌, ◌++◌, Some, Bool, true, false, length, replicate, pos, negsuc, ℤ, ◌≤ℤ◌, refl, sym, ap, subst, ◌∙◌, arith, if◌then◌else◌, ◌==◌, length-append, append-nil, append_assoc, lit<}
+use Rattle.std.proofs.Common.{◌≡◌, ℕ, zero, suc, ◌+◌, ◌-◌, ◌*◌, ◌/◌, ◌%◌, ◌^◌, ◌<◌, ◌≤◌, List, ◌∷◌, ◌++◌, Some, length, replicate, pos, negsuc, ℤ, refl, sym, ap, subst, ◌∙◌, arith, length-append, append-nil, lit<}
 use Rattle.std.specs.Fmt.{decimal}
-use Rattle.std.specs.Str.Parse.{IsNumeral, AllDigits, digits_value}
+use Rattle.std.specs.Str.Parse.{AllDigits, digits_value}
 use Rattle.std.proofs.lemmas.Bool.{ne_eqb}
 use Rattle.std.proofs.lemmas.Fmt.{decimal_is_IsNumeral_wide, length-decimal-le_wide}
 use Rattle.std.proofs.lemmas.List.{length-replicate}
 use Rattle.std.proofs.Math.Nat.{mod-lt, one-le-pow, div-add-mod, div-one, div-le_self}
 use Rattle.hs_decimal.proofs.Numerals.{digits_value-append, all-append}
 use Rattle.hs_decimal.proofs.Spelling.{is_read}
-use Rattle.hs_decimal.specs.Text.{Spells, whole, pointed, read_of, text_of, padded, fraction_of, sign_of, IsReadable}
+use Rattle.hs_decimal.specs.Text.{Spells, whole, pointed, read_of, text_of, padded, IsReadable}
 use Rattle.hs_values.specs.Decimal.{IsDecimal}
 use Rattle.hs_values.specs.declared.value.Dec.{Dec}
 

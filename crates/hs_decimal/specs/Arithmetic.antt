@@ -1,5 +1,5 @@
 -- What + - * and / of two decimals give, by exact whole numbers.
-use Rattle.std.specs.Prelude.{ℕ, ◌+◌, ◌-◌, ◌^◌, max, ℤ, pos, ◌+ℤ◌, ◌-ℤ◌, ◌*ℤ◌, unsigned_abs, int_div, if◌then◌else◌, ◌==◌, Result, Ok, Err}
+use Rattle.std.specs.Prelude.{◌+◌, ◌-◌, ◌^◌, max, pos, ◌+ℤ◌, ◌-ℤ◌, ◌*ℤ◌, unsigned_abs, int_div, if◌then◌else◌, ◌==◌, Result, Ok, Err}
 use Rattle.hs_values.specs.Decimal.{checked_of, rescaled_of}
 use Rattle.hs_values.specs.declared.value.Dec.{Dec}
 use Rattle.hs_values.specs.declared.fault.EvalFault.{EvalFault}

@@ -6,6 +6,8 @@ mod arithmetic;
 mod division;
 mod printing;
 mod reading;
+#[cfg(test)]
+mod tests;
 
 pub use arithmetic::{add, mul, sub};
 pub use division::div;

@@ -1,4 +1,4 @@
-use Rattle.std.proofs.Common.{◌≡◌, None, rules}
+use Rattle.std.proofs.Common.{rules}
 use Rattle.hs_decimal.specs.Text.{read_of}
 use Rattle.hs_decimal.proofs.Spelling.{spelled}
 use Rattle.hs_decimal.proofs.reading.read.Goals as goal
