@@ -1,6 +1,6 @@
 // Sums, differences and products.
 ghost use Rattle.std.specs.Prelude.{◌≡◌, IfOk};
-ghost use Rattle.hs_values.specs.Decimal.{IsDecimal};
+ghost use Rattle.hs_values.specs.Decimal.{IsDecimal, rescaled_of};
 ghost use Rattle.hs_decimal.specs.Arithmetic.{sum_of, difference_of, product_of};
 
 use hs_values::{Dec, EvalFault, checked_decimal, rescale};
@@ -15,8 +15,8 @@ pub fn add(a: Dec, b: Dec) -> Result<Dec, EvalFault>
     ensures lawful { IfOk result IsDecimal }
 {
     let scale = a.scale.max(b.scale);
-    let x = rescale(a, scale)?;
-    let y = rescale(b, scale)?;
+    let x = raised(a, scale)?;
+    let y = raised(b, scale)?;
     match x.units.checked_add(y.units) {
         Some(units) => checked_decimal(units, scale),
         None => Err(EvalFault::Range),
@@ -33,8 +33,8 @@ pub fn sub(a: Dec, b: Dec) -> Result<Dec, EvalFault>
     ensures lawful { IfOk result IsDecimal }
 {
     let scale = a.scale.max(b.scale);
-    let x = rescale(a, scale)?;
-    let y = rescale(b, scale)?;
+    let x = raised(a, scale)?;
+    let y = raised(b, scale)?;
     match x.units.checked_sub(y.units) {
         Some(units) => checked_decimal(units, scale),
         None => Err(EvalFault::Range),
@@ -54,4 +54,17 @@ pub fn mul(a: Dec, b: Dec) -> Result<Dec, EvalFault>
         Some(units) => checked_decimal(units, a.scale + b.scale),
         None => Err(EvalFault::Range),
     }
+}
+
+/// The same number at another scale, at once where it has that scale already.
+#[tactic(auto, using(crate::proofs::Raised::unmoved))]
+fn raised(a: Dec, scale: u8) -> Result<Dec, EvalFault>
+    requires { IsDecimal a }
+    ensures value { result ≡ rescaled_of a scale }
+    ensures lawful { IfOk result IsDecimal }
+{
+    if scale == a.scale {
+        return Ok(a);
+    }
+    rescale(a, scale)
 }
