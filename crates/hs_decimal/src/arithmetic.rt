@@ -5,8 +5,9 @@ ghost use Rattle.hs_decimal.specs.Arithmetic.{sum_of, difference_of, product_of}
 
 use hs_values::{Dec, EvalFault, checked_decimal, rescale};
 
-/// The sum, at the greater of the two scales. `Range` exactly where an operand given that scale, or
-/// the sum, has more than 38 digits.
+/// The sum, at the greater of the two scales, as the SQL standard has it. Each operand is first
+/// given that scale: `Range` exactly where an operand at that scale, or the sum, has more than 38
+/// digits, so also where the sum itself would have fitted.
 #[tactic(auto, using(hs_values::proofs::DecimalWidths::too_wide), unfolding(crate::specs::Arithmetic::sum_of))]
 pub fn add(a: Dec, b: Dec) -> Result<Dec, EvalFault>
     requires left { IsDecimal a }
@@ -23,8 +24,9 @@ pub fn add(a: Dec, b: Dec) -> Result<Dec, EvalFault>
     }
 }
 
-/// The difference, at the greater of the two scales. `Range` exactly where an operand given that
-/// scale, or the difference, has more than 38 digits.
+/// The difference, at the greater of the two scales, as the SQL standard has it. Each operand is
+/// first given that scale: `Range` exactly where an operand at that scale, or the difference, has
+/// more than 38 digits.
 #[tactic(auto, using(hs_values::proofs::DecimalWidths::too_wide), unfolding(crate::specs::Arithmetic::difference_of))]
 pub fn sub(a: Dec, b: Dec) -> Result<Dec, EvalFault>
     requires left { IsDecimal a }
@@ -41,8 +43,8 @@ pub fn sub(a: Dec, b: Dec) -> Result<Dec, EvalFault>
     }
 }
 
-/// The product, at the sum of the two scales. `Range` exactly where that sum is above 38, or the
-/// product has more than 38 digits.
+/// The product, at the sum of the two scales, as the SQL standard has it. `Range` exactly where that
+/// scale is above 38, also for a product of zero, or the product has more than 38 digits.
 #[tactic(auto, using(hs_values::proofs::DecimalWidths::too_wide), unfolding(crate::specs::Arithmetic::product_of))]
 pub fn mul(a: Dec, b: Dec) -> Result<Dec, EvalFault>
     requires left { IsDecimal a }

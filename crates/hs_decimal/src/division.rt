@@ -1,6 +1,7 @@
 // Quotients, by long division.
-ghost use Rattle.std.specs.Prelude.{◌≡◌, ◌+◌, ◌*◌, ◌/◌, ◌^◌, ◌<◌, ◌*ℤ◌, pos, unsigned_abs, int_div, SomeIff, IfOk};
+ghost use Rattle.std.specs.Prelude.{◌≡◌, ◌+◌, ◌*◌, ◌/◌, ◌^◌, ◌<◌, ◌*ℤ◌, pos, unsigned_abs, int_div, SomeIff, IfOk, Err, ◌↔◌};
 ghost use Rattle.hs_values.specs.Decimal.{IsDecimal};
+ghost use Rattle.hs_values.specs.declared.fault.EvalFault.TheVariants.{DivisionByZero};
 ghost use Rattle.hs_decimal.specs.Arithmetic.{quotient_of};
 ghost use Rattle.hs_decimal.specs.Sign.{is_below_zero, with_signs};
 
@@ -9,13 +10,16 @@ use hs_values::{Dec, EvalFault, checked_decimal};
 /// The least number of 38 digits: a quotient that has reached it has no room for another digit.
 const FULL: u128 = 10_000_000_000_000_000_000_000_000_000_000_000_000;
 
-/// The quotient, at the greater of the two scales, cut toward zero. `DivisionByZero` exactly where
-/// `b` is zero; else `Range` exactly where the quotient has more than 38 digits.
+/// The quotient, at the greater of the two scales, cut toward zero and never rounded: 1.00 by 3 is
+/// 0.33. The SQL standard leaves a quotient's scale to the implementation. `DivisionByZero` exactly
+/// where `b` is zero; else `Range` exactly where the quotient has more than 38 digits, however many
+/// the dividend has at the scale that it needs.
 #[tactic(auto, unfolding(crate::specs::Arithmetic::quotient_of, hs_values::specs::Decimal::checked_of))]
 pub fn div(a: Dec, b: Dec) -> Result<Dec, EvalFault>
     requires left { IsDecimal a }
     requires right { IsDecimal b }
     ensures value { result ≡ quotient_of a b }
+    ensures by_zero { (result ≡ Err DivisionByZero) ↔ (b.units ≡ pos 0) }
     ensures lawful { IfOk result IsDecimal }
 {
     if b.units == 0 {

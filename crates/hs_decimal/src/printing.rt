@@ -14,11 +14,11 @@ use itoa::Buffer;
 const WIDEST: usize = 41;
 
 /// Appends a decimal's text to `out`: `-` in front of a number below zero, at least one digit, and
-/// for a scale above 0 a point and as many digits as the scale says. After an `Err`, which is want
-/// of memory, nothing is changed.
+/// for a scale above 0 a point and as many digits as the scale says. After an `Err`, which is always
+/// `NoMemory`, nothing is changed.
 ///
 /// What is printed of a number without a sign, in at most 38 digits, [`read`](crate::read) gives
-/// back.
+/// back, with its scale.
 #[tactic(auto, using(crate::proofs::ReadBack::read_back))]
 pub fn print(a: Dec, out: &mut Chars) -> Result<(), EvalFault>
     requires { IsDecimal a }

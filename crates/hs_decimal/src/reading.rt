@@ -6,9 +6,10 @@ ghost use Rattle.hs_decimal.specs.Text.{Spells, number_of, read_of};
 
 use hs_values::{Dec, MOST_DIGITS, ten_to};
 
-/// The number that a text spells: digits, or digits with one point and at least one digit behind
-/// it, of at most 38 digits in all, as they are written. Its scale is the number of digits behind
-/// the point. `None` exactly where the text is no such number; one with a sign is none.
+/// The number that a text spells, an unsigned exact numeric literal: digits, or digits with one point
+/// and at least one digit in front of it and behind it. There are at most 38 digits in all, zeros at
+/// the beginning included. The number's scale is how many digits stand behind the point. `None`
+/// exactly where the text is no such literal, so also where there is a sign.
 #[tactic(auto, unfolding(crate::specs::Text::read_of))]
 pub fn read(text: &str) -> Option<Dec>
     ensures value { result ≡ read_of text.now }
