@@ -54,12 +54,12 @@ chars_before_seam text rest front n valid rest_valid e cut =
 -- m elements less the first n of them
 pub take_past : (n m : ℕ) (xs : List ℕ) → take (m - n) (drop n xs) ≡ drop n (take m xs)
 take_past n m xs = elim (cases_lt m n) [
-    inl short ↦
-        let none : drop n (take m xs) ≡ [] = drop_of_length-le (take m xs) (omega (arith, length-take m xs)) in
-        let zero_left : m - n ≡ 0 = omega arith in
-        rw (none, zero_left)
+  | inl short ↦
+      let none : drop n (take m xs) ≡ [] = drop_of_length-le (take m xs) (omega (arith, length-take m xs)) in
+      let zero_left : m - n ≡ 0 = omega arith in
+      rw (none, zero_left)
   | inr long ↦ let m_is : n + (m - n) ≡ m = omega arith in sym (ap (λ (k : ℕ). drop n (take k xs)) (sym m_is) ∙ drop-take n (m - n) xs)
-  ]
+]
 
 -- no characters are no bytes
 pub none_of_chars : (text : List ℕ) → IsUtf8 text → chars text ≡ [] → length text ≡ 0

@@ -23,15 +23,15 @@ map_same f h (b ∷ bs) wide =
 -- each byte of a character beyond ASCII is beyond ASCII
 map-encode_wide : (f : ℕ → ℕ) → ChangesAsciiOnly f → (c : ℕ) → 128 ≤ c → map f (encode_utf8 c) ≡ encode_utf8 c
 map-encode_wide f h c wide = map_same f h (encode_utf8 c) (λ k below. elim (cases_lt (get_or (encode_utf8 c) k 0) 128) [
-    inl narrow ↦ let same : c ≡ get_or (encode_utf8 c) k 0 = inside_one c [] (encode_utf8 c) k (sym (append-nil (encode_utf8 c))) below narrow in omega arith
+  | inl narrow ↦ let same : c ≡ get_or (encode_utf8 c) k 0 = inside_one c [] (encode_utf8 c) k (sym (append-nil (encode_utf8 c))) below narrow in omega arith
   | inr here ↦ here
-  ])
+])
 
 map-encode : (f : ℕ → ℕ) → ChangesAsciiOnly f → (c : ℕ) → map f (encode_utf8 c) ≡ encode_utf8 (f c)
 map-encode f h c = elim (cases_lt c 128) [
-    inl narrow ↦ rw (encode_ascii c narrow, encode_ascii (f c) (h.ascii c narrow))
+  | inl narrow ↦ rw (encode_ascii c narrow, encode_ascii (f c) (h.ascii c narrow))
   | inr wide ↦ rw (h.others c wide) (map-encode_wide f h c wide)
-  ]
+]
 
 map-encodes : (f : ℕ → ℕ) → ChangesAsciiOnly f → (cs : List ℕ) → map f (encode_utf8_all cs) ≡ encode_utf8_all (map f cs)
 map-encodes f h [] = refl

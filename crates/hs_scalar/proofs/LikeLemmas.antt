@@ -70,25 +70,29 @@ record TakesOne (longer shorter : List ℕ → Bool) : Type 0 where
   pub none : longer [] ≡ false
   pub one : (c : ℕ) (cs : List ℕ) → longer (c ∷ cs) ≡ true → shorter cs ≡ true
 
-or_cases : (a b : Bool) → (a || b) ≡ true → (a ≡ true) ⊎ (b ≡ true)
+pub or_cases : (a b : Bool) → (a || b) ≡ true → (a ≡ true) ⊎ (b ≡ true)
 or_cases true b e = inl refl
 or_cases false b e = inr e
 
-or_second : (a b : Bool) → b ≡ true → (a || b) ≡ true
+pub or_second : (a b : Bool) → b ≡ true → (a || b) ≡ true
 or_second true b e = refl
 or_second false b e = e
 
 some_end_after_one : (longer shorter : List ℕ → Bool) → TakesOne longer shorter → (c : ℕ) (cs : List ℕ) → some_end_passes longer (c ∷ cs) ≡ true → some_end_passes shorter cs ≡ true
 some_end_after_one longer shorter h c [] passes = elim (or_cases (longer (c ∷ [])) (longer []) passes) [
-    inl here ↦ h.one c [] here
+  | inl here ↦ h.one c [] here
   | inr later ↦ let never : longer [] ≡ false = h.none in cc
-  ]
+]
 some_end_after_one longer shorter h c (d ∷ ds) passes = elim (or_cases (longer (c ∷ d ∷ ds)) (some_end_passes longer (d ∷ ds)) passes) [
-    inl here ↦ some_end_from_whole shorter (d ∷ ds) (h.one c (d ∷ ds) here)
+  | inl here ↦ some_end_from_whole shorter (d ∷ ds) (h.one c (d ∷ ds) here)
   | inr later ↦ or_second (shorter (d ∷ ds)) (some_end_passes shorter ds) (some_end_after_one longer shorter h d ds later)
-  ]
+]
 
-and_second : (a b : Bool) → (a && b) ≡ true → b ≡ true
+pub and_first : (a b : Bool) → (a && b) ≡ true → a ≡ true
+and_first true b e = refl
+and_first false b e = e
+
+pub and_second : (a b : Bool) → (a && b) ≡ true → b ≡ true
 and_second true b e = e
 and_second false b e = absurd cc
 

@@ -26,7 +26,8 @@ abbrev pub some_end_passes : (List ℕ → Bool) → List ℕ → Bool
 some_end_passes test [] = test []
 some_end_passes test (c ∷ cs) = test (c ∷ cs) || some_end_passes test cs
 
--- whether the items stand for the characters: behind any run, an end of the text is left
+-- whether the items stand for the characters, where behind any run some end of them is left: just where the characters are pieces
+-- in a row that fit the items, as `IsLike-matches` of `proofs/LikeLaws.antt` says
 unfoldable pub matches : List Item → List ℕ → Bool
 matches [] [] = true
 matches [] (c ∷ cs) = false

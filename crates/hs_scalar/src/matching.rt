@@ -77,5 +77,9 @@ fn try_start<'a>(text: &'a str, pattern: &'a str, escape: Option<char>) -> Attem
             }
         }
     }
-    if rest.is_empty() { Attempt::Whole } else { Attempt::Fails }
+    if rest.is_empty() {
+        Attempt::Whole
+    } else {
+        Attempt::Fails
+    }
 }

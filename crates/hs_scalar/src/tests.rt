@@ -1,145 +1,172 @@
-// Tables of worked cases, with the values that each function must give.
+// Worked cases, each with the value that it must give. A line is a case, and a bar parts its fields.
 use super::{Side, char_length, concat, like, lower, substring, trim, upper};
 use std::test::Fail;
 
+// A text, a pattern, an escape or nothing, and whether the text is like the pattern.
+const LIKES: &str = "\
+abc|abc||yes
+abc|ab||no
+abc|a%||yes
+abc|%||yes
+|%||yes
+|||yes
+|_||no
+a|||no
+abc|a_c||yes
+abc|__||no
+abc|___||yes
+añb|a_b||yes
+añb|a__b||no
+€|_||yes
+😀x|_x||yes
+😀|____||no
+abc|%b%||yes
+abc|%d%||no
+abab|%ab||yes
+aab|%ab||yes
+aaab|a%ab||yes
+ab|a%ab||no
+mississippi|m%iss%ip%i||yes
+mississippi|m%iss%issi%i||yes
+abc|%%%||yes
+abc|a%%c||yes
+abc|%_%_%_%||yes
+abc|%_%_%_%_%||no
+50%|50!%|!|yes
+50x|50!%|!|no
+a_b|a!_b|!|yes
+axb|a!_b|!|no
+a!|a!|!|yes
+a|a!|!|no
+a!b|a!!b|!|yes
+ab|a!b|!|yes
+%|%%|%|yes
+a%|a%%|%|yes
+ab|a%b|%|yes
+abc|a%|%|no
+a%|a%|%|yes
+_|__|_|yes
+x|__|_|no
+x_|x_|_|yes
+xy|x_|_|no
+añb|añ!b|!|yes
+añb|añb|ñ|no
+abñ|abñ|ñ|yes
+ABC|abc||no
+a%b|a\\%b|\\|yes
+a\\xb|a\\%b||yes
+éa|%a||yes
+aé|%é||yes
+ñ|%_||yes
+ñ|%__||no
+";
+
+// A text, the first position, a count or nothing, and the characters there.
+const SUBSTRINGS: &str = "\
+abc|0|2|a
+abc|1|2|ab
+abc|2||bc
+abc|0||abc
+abc|-5||abc
+abc|-1|3|a
+abc|-1|2|
+abc|4|1|
+abc|3|5|c
+abc|1|0|
+abc|1|-1|
+abc|2|-3|
+abc|3|1|c
+añb€|2|2|ñb
+añb€|4||€
+😀x|1|1|😀
+😀x|2|1|x
+|1|1|
+|1||
+abc|9223372036854775807|9223372036854775807|
+abc|-9223372036854775808|9223372036854775807|
+abc|-9223372036854775808||abc
+abc|9223372036854775807||
+abc|-9223372036854775808|-9223372036854775808|
+abc|1|9223372036854775807|abc
+abc|2|9223372036854775807|bc
+abc|-1|9223372036854775807|abc
+abc|0|1|
+abc|0|3|ab
+";
+
+// A text, a character, and the text without it at the start, at the end and at both.
+const TRIMS: &str = "\
+xxaxx|x|axx|xxa|a
+aaaa|a|||
+|a|||
+añña|a|ñña|aññ|ññ
+ññaññ|ñ|aññ|ñña|a
+€a€|ñ|€a€|€a€|€a€
+  a b  | |a b  |  a b|a b
+";
+
+// A text, in capitals, in small letters, and the number of its characters.
+const LETTERS: &str = "\
+añb|AñB|añb|3
+AB|AB|ab|2
+azAZ|AZAZ|azaz|4
+`{@[|`{@[|`{@[|4
+ÀÉß|ÀÉß|ÀÉß|3
+ÿŸ|ÿŸ|ÿŸ|2
+|||0
+ıK|ıK|ık|2
+1a_B😀z|1A_B😀Z|1a_b😀z|6
+";
+
+// Two texts, and the one after the other.
+const JOINS: &str = "\
+a||a
+|a|a
+||
+añ|€b|añ€b
+ab|cd|abcd
+";
+
 #[test]
-fn texts(rt: HostRuntime) -> Result<(), Fail> {
-    let likes = [
-        ("abc", "abc", None, true),
-        ("abc", "ab", None, false),
-        ("abc", "a%", None, true),
-        ("abc", "%", None, true),
-        ("", "%", None, true),
-        ("", "", None, true),
-        ("", "_", None, false),
-        ("a", "", None, false),
-        ("abc", "a_c", None, true),
-        ("abc", "__", None, false),
-        ("abc", "___", None, true),
-        ("añb", "a_b", None, true),
-        ("añb", "a__b", None, false),
-        ("€", "_", None, true),
-        ("😀x", "_x", None, true),
-        ("😀", "____", None, false),
-        ("abc", "%b%", None, true),
-        ("abc", "%d%", None, false),
-        ("abab", "%ab", None, true),
-        ("aab", "%ab", None, true),
-        ("aaab", "a%ab", None, true),
-        ("ab", "a%ab", None, false),
-        ("mississippi", "m%iss%ip%i", None, true),
-        ("mississippi", "m%iss%issi%i", None, true),
-        ("abc", "%%%", None, true),
-        ("abc", "a%%c", None, true),
-        ("abc", "%_%_%_%", None, true),
-        ("abc", "%_%_%_%_%", None, false),
-        ("50%", "50!%", Some('!'), true),
-        ("50x", "50!%", Some('!'), false),
-        ("a_b", "a!_b", Some('!'), true),
-        ("axb", "a!_b", Some('!'), false),
-        ("a!", "a!", Some('!'), true),
-        ("a", "a!", Some('!'), false),
-        ("a!b", "a!!b", Some('!'), true),
-        ("ab", "a!b", Some('!'), true),
-        ("%", "%%", Some('%'), true),
-        ("a%", "a%%", Some('%'), true),
-        ("ab", "a%b", Some('%'), true),
-        ("abc", "a%", Some('%'), false),
-        ("a%", "a%", Some('%'), true),
-        ("_", "__", Some('_'), true),
-        ("x", "__", Some('_'), false),
-        ("x_", "x_", Some('_'), true),
-        ("xy", "x_", Some('_'), false),
-        ("añb", "añ!b", Some('!'), true),
-        ("añb", "añb", Some('ñ'), false),
-        ("abñ", "abñ", Some('ñ'), true),
-        ("line\nbreak", "line%break", None, true),
-        ("line\nbreak", "line_break", None, true),
-        ("ABC", "abc", None, false),
-        ("a%b", "a\\%b", Some('\\'), true),
-        ("a\\xb", "a\\%b", None, true),
-        ("éa", "%a", None, true),
-        ("aé", "%é", None, true),
-        ("ñ", "%_", None, true),
-        ("ñ", "%__", None, false),
-    ];
-    let substrings = [
-        ("abc", 0, Some(2), "a"),
-        ("abc", 1, Some(2), "ab"),
-        ("abc", 2, None, "bc"),
-        ("abc", 0, None, "abc"),
-        ("abc", -5, None, "abc"),
-        ("abc", -1, Some(3), "a"),
-        ("abc", -1, Some(2), ""),
-        ("abc", 4, Some(1), ""),
-        ("abc", 3, Some(5), "c"),
-        ("abc", 1, Some(0), ""),
-        ("abc", 1, Some(-1), ""),
-        ("abc", 2, Some(-3), ""),
-        ("abc", 3, Some(1), "c"),
-        ("añb€", 2, Some(2), "ñb"),
-        ("añb€", 4, None, "€"),
-        ("😀x", 1, Some(1), "😀"),
-        ("😀x", 2, Some(1), "x"),
-        ("", 1, Some(1), ""),
-        ("", 1, None, ""),
-        ("abc", i64::MAX, Some(i64::MAX), ""),
-        ("abc", i64::MIN, Some(i64::MAX), ""),
-        ("abc", i64::MIN, None, "abc"),
-        ("abc", i64::MAX, None, ""),
-        ("abc", i64::MIN, Some(i64::MIN), ""),
-        ("abc", 1, Some(i64::MAX), "abc"),
-        ("abc", 2, Some(i64::MAX), "bc"),
-        ("abc", -1, Some(i64::MAX), "abc"),
-        ("abc", 0, Some(1), ""),
-        ("abc", 0, Some(3), "ab"),
-    ];
-    let trims = [
-        ("  a b  ", ' ', "a b  ", "  a b", "a b"),
-        ("xxaxx", 'x', "axx", "xxa", "a"),
-        ("aaaa", 'a', "", "", ""),
-        ("", 'a', "", "", ""),
-        ("añña", 'a', "ñña", "aññ", "ññ"),
-        ("ññaññ", 'ñ', "aññ", "ñña", "a"),
-        ("€a€", 'ñ', "€a€", "€a€", "€a€"),
-        ("abc", ' ', "abc", "abc", "abc"),
-        (" a ", ' ', " a ", " a ", " a "),
-    ];
-    let letters = [
-        ("añb", "AñB", "añb", 3),
-        ("AB", "AB", "ab", 2),
-        ("azAZ", "AZAZ", "azaz", 4),
-        ("`{@[", "`{@[", "`{@[", 4),
-        ("ÀÉß", "ÀÉß", "ÀÉß", 3),
-        ("ÿŸ", "ÿŸ", "ÿŸ", 2),
-        ("", "", "", 0),
-        ("ıK", "ıK", "ık", 2),
-        ("1a_B😀z", "1A_B😀Z", "1a_b😀z", 6),
-    ];
-    let joins = [
-        ("a", "", "a"),
-        ("", "a", "a"),
-        ("", "", ""),
-        ("añ", "€b", "añ€b"),
-        ("ab", "cd", "abcd"),
-    ];
-    for (text, pattern, escape, want) in likes {
-        assert_eq!(rt; like(text, pattern, escape), want, "{text:?} LIKE {pattern:?}");
+fn parts_of_texts(rt: HostRuntime) {
+    for line in LIKES.lines() {
+        let (text, pattern, escape, want) = fields(line);
+        let found = like(text, pattern, escape.chars().next());
+        assert_eq!(rt; found, want == "yes", "{line}");
     }
-    for (text, from, count, want) in substrings {
-        assert_eq!(rt; substring(text, from, count), want, "{text:?} FROM {from}");
+    for line in SUBSTRINGS.lines() {
+        let (text, from, count, want) = fields(line);
+        let from = from.parse().unwrap_or(0);
+        assert_eq!(rt; substring(text, from, count.parse().ok()), want, "{line}");
     }
-    for (text, c, leading, trailing, both) in trims {
-        assert_eq!(rt; trim(text, Side::Leading, c), leading, "LEADING {c:?} of {text:?}");
-        assert_eq!(rt; trim(text, Side::Trailing, c), trailing, "TRAILING {c:?} of {text:?}");
-        assert_eq!(rt; trim(text, Side::Both, c), both, "BOTH {c:?} of {text:?}");
+}
+
+// The fields of a line: the first three, and what is left of it.
+fn fields(line: &str) -> (&str, &str, &str, &str) {
+    let (first, rest) = line.split_once('|').unwrap_or((line, ""));
+    let (second, rest) = rest.split_once('|').unwrap_or((rest, ""));
+    let (third, rest) = rest.split_once('|').unwrap_or((rest, ""));
+    (first, second, third, rest)
+}
+
+#[test]
+fn whole_texts(rt: HostRuntime) -> Result<(), Fail> {
+    for line in TRIMS.lines() {
+        let (text, c, leading, rest) = fields(line);
+        let (trailing, both) = rest.split_once('|').unwrap_or((rest, ""));
+        let c = c.chars().next().unwrap_or(' ');
+        assert_eq!(rt; trim(text, Side::Leading, c), leading, "{line}");
+        assert_eq!(rt; trim(text, Side::Trailing, c), trailing, "{line}");
+        assert_eq!(rt; trim(text, Side::Both, c), both, "{line}");
     }
-    for (text, capitals, small, length) in letters {
+    for line in LETTERS.lines() {
+        let (text, capitals, small, length) = fields(line);
         assert_eq!(rt; upper(rt.alloc(), text)?.as_str(), capitals);
         assert_eq!(rt; lower(rt.alloc(), text)?.as_str(), small);
-        assert_eq!(rt; char_length(text), length);
+        assert_eq!(rt; char_length(text), length.parse().unwrap_or(-1));
     }
-    for (a, b, want) in joins {
+    for line in JOINS.lines() {
+        let (a, b, want, _) = fields(line);
         assert_eq!(rt; concat(rt.alloc(), a, b)?.as_str(), want);
     }
     Ok(())

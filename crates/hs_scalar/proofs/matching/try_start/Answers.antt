@@ -19,9 +19,13 @@ pub returns-then-not-fits : goal.returns-then-not-fits
 returns-then-not-fits c = continues_fails c.loop-item.invariant.2 c.in-Some.ensures.parts c.in-Some-split_first.ensures.parts c.in_default-item.not-AnyRun (cc)
 
 pub loop-item-preserved : goal.loop-item-preserved
-loop-item-preserved c = (search rules, search rules,
-    continues_one c.loop-item.invariant.2 c.in-Some.ensures.parts c.in-Some-split_first.ensures.parts c.in_default-item.not-AnyRun (cc),
-    omega (arith, c.in-Some-split_first.ensures.shorter), omega (arith, c.in-Some.ensures.shorter))
+loop-item-preserved c = (
+  search rules,
+  search rules,
+  continues_one c.loop-item.invariant.2 c.in-Some.ensures.parts c.in-Some-split_first.ensures.parts c.in_default-item.not-AnyRun (cc),
+  omega (arith, c.in-Some-split_first.ensures.shorter),
+  omega (arith, c.in-Some.ensures.shorter),
+)
 
 pub returns-then-is_empty : goal.returns-then-is_empty
 returns-then-is_empty c = continues_to_end c.loop-item.invariant.2 c.in_default.ensures.parts (chars_of_none c.loop-item.rest.now (search rules))
