@@ -163,6 +163,11 @@ continues_to_end {q} {p} {r} {t} h done none = h.whole ∙ (rw (done, none) matc
 pub continues_left_over : {q p : List Item} {r t : List ℕ} → Continues q r p t → p ≡ [] → t ≢ [] → matches q r ≡ false
 continues_left_over {q} {p} {r} {t} h done some = h.whole ∙ (rw done (matches_some t some))
 
+-- no end is lost with a character that the first item does not stand for
+pub some_end_past_misfit : {q later : List Item} {t cs : List ℕ} {item : Item} {c : ℕ}
+    → q ≡ item ∷ later → t ≡ c ∷ cs → item ≢ AnyRun → stands_for item c ≡ false → some_end_passes (matches q) cs ≡ some_end_passes (matches q) t
+some_end_past_misfit {q} {later} {t} {cs} {item} {c} next first single unfit = rw (next, first) (sym (some_end_past (matches (item ∷ later)) c cs (matches_unfit item later c cs single unfit)))
+
 -- the whole fails where every end does
 pub whole_fails : (test : List ℕ → Bool) (cs : List ℕ) → some_end_passes test cs ≡ false → test cs ≡ false
 whole_fails test cs fails = same_tests (test cs) false (λ passes. sym fails ∙ some_end_from_whole test cs passes) (λ never. absurd cc)

@@ -1,5 +1,5 @@
 // Whether a text is like a pattern.
-ghost use Rattle.std.specs.Prelude.{◌≡◌};
+ghost use Rattle.std.specs.Prelude.{◌≡◌, ◌≤◌, length};
 ghost use Rattle.std.specs.Str.{chars};
 ghost use Rattle.hs_scalar.specs.Like.{items_of, matches, some_end_passes, like_of};
 ghost use Rattle.hs_scalar.specs.Attempt.{AttemptTells};
@@ -41,6 +41,7 @@ fn some_end_is_like(text: &str, pattern: &str, escape: Option<char>) -> bool
 {
     let (mut start, mut items) = (text, pattern);
     while !items.is_empty() {
+        start = from_first_fit(start, items, escape);
         match try_start(start, items, escape) {
             Attempt::Whole => return true,
             Attempt::TooShort => return false,
@@ -55,6 +56,28 @@ fn some_end_is_like(text: &str, pattern: &str, escape: Option<char>) -> bool
         }
     }
     true
+}
+
+/// What is left of a text from the first character on that the pattern may begin with.
+fn from_first_fit<'a>(text: &'a str, pattern: &str, escape: Option<char>) -> &'a str
+    ensures ends { some_end_passes (matches (items_of escape (chars pattern.now))) (chars result.now) ≡ some_end_passes (matches (items_of escape (chars pattern.now))) (chars text.now) }
+    ensures shorter { length result.now ≤ length text.now }
+{
+    let item = match split_item(pattern, escape) {
+        Some((item, _)) => item,
+        None => return text,
+    };
+    if let Item::AnyRun = item {
+        return text;
+    }
+    let mut rest = text;
+    while let Some((c, after)) = split_first(rest) {
+        if fits(item, c) {
+            return rest;
+        }
+        rest = after;
+    }
+    rest
 }
 
 /// Matches the items before the first `%` with the text's first characters.
