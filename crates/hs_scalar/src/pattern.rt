@@ -7,7 +7,7 @@ use crate::ends::split_first;
 
 /// What a part of a pattern stands for.
 #[derive(Clone, Copy, Debug)]
-pub enum Item {
+pub(crate) enum Item {
     /// Any run of characters, the empty one among them: `%`.
     AnyRun,
     /// Any one character: `_`.

@@ -12,9 +12,10 @@ pub fn char_length(text: &str) -> i64
     text.chars().count() as i64
 }
 
-/// The characters of a text at the positions from `from` on, which count from 1: at most `count`
-/// positions where one is given, and none for a count below 1. The positions below 1 have no
-/// character, and count all the same. This is SUBSTRING of SQL.
+/// The characters of a text from the position `from` on, where the first character has position 1:
+/// SUBSTRING of SQL. With a count they are those at the positions `from` to `from + count - 1`, and
+/// none for a count below 1. Positions below 1 and behind the text's end have no character, and
+/// count all the same. Borrows from the text and takes no memory.
 pub fn substring(text: &str, from: i64, count: Option<i64>) -> &str
     ensures { result.now ≡ substring_of text.now from count }
 {

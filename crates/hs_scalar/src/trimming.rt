@@ -16,7 +16,8 @@ pub enum Side {
     Both,
 }
 
-/// The text without every repetition of the character at that side: TRIM of SQL.
+/// The text without every repetition of the character at that side: TRIM of SQL. Borrows from the
+/// text and takes no memory.
 #[tactic(auto, using(crate::proofs::CharLemmas::spelled))]
 pub fn trim(text: &str, side: Side, c: char) -> &str
     ensures { result.now ≡ trim_of text.now side c }

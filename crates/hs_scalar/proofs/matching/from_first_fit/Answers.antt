@@ -1,4 +1,4 @@
-use Rattle.std.proofs.Common.{rules, ◌∙◌, sym, arith}
+use Rattle.std.proofs.Common.{rules, ◌∙◌, arith}
 use Rattle.hs_scalar.proofs.LikeLemmas.{some_end_past_misfit}
 use Rattle.hs_scalar.proofs.matching.from_first_fit.Goals as goal
 
