@@ -1,4 +1,6 @@
+pub mod Assigned
 pub mod DecimalWidths
+pub mod Keys
 pub mod Lawful
 pub mod Rows
 pub mod Scales
