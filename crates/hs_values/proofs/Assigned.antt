@@ -1,18 +1,20 @@
 -- What is stored, from a number at the column's scale.
-use Rattle.std.proofs.Common.{◌≡◌, ℕ, ◌+◌, ◌^◌, ◌<◌, ◌≤◌, true, false, ◌&&◌, ℤ, pos, negsuc, FitsSigned, Ok, Err, refl, sym, ap, ◌∙◌, arith, inl, inr, min}
+use Rattle.std.proofs.Common.{◌≡◌, ℕ, ◌+◌, ◌^◌, ◌<◌, ◌≤◌, true, false, ◌&&◌, ℤ, pos, negsuc, ◌*ℤ◌, FitsSigned, Ok, Err, refl, sym, ap, subst, ◌∙◌, arith, inl, inr, min}
 use Rattle.std.specs.Prelude.{◌==◌, unsigned_abs, if◌then◌else◌, nat_lt, nat_le}
 use Rattle.std.specs.Int.{w64}
 use Rattle.std.specs.Int.Signed.{mag}
-use Rattle.std.proofs.Math.Nat.{pow-le-pow_right}
-use Rattle.std.proofs.lemmas.Bool.{cond-true, cond-false, cases_Bool, and_parts, le-ltb, lt-ltb, ltb-true, ltb-false, true≢false}
+use Rattle.std.proofs.Math.Nat.{pow-le-pow_right, sub_self}
+use Rattle.std.proofs.Math.IntN.{one, *ℤ-one}
+use Rattle.std.proofs.lemmas.Bool.{cond-true, cond-false, cases_Bool, and_parts, le-ltb, lt-ltb, ltb-true, ltb-false, le-leb, eqb-true, true≢false}
 use Rattle.hs_values.specs.declared.fault.EvalFault.{EvalFault}
 use Rattle.hs_values.specs.declared.fault.EvalFault.TheVariants.{Range}
 use Rattle.hs_values.specs.declared.sql_type.SqlType.{SqlType}
 use Rattle.hs_values.specs.declared.sql_type.SqlType.TheVariants as t
 use Rattle.hs_values.specs.declared.value.Dec.{Dec}
+use Rattle.hs_values.specs.declared.value.Value.{Value}
 use Rattle.hs_values.specs.declared.value.Value.TheVariants as v
 use Rattle.hs_values.specs.Decimal.{units_at, checked_of, rescaled_of}
-use Rattle.hs_values.specs.SqlType.{has_digits, fits_of, assign_of, is_signed}
+use Rattle.hs_values.specs.SqlType.{has_digits, fits_of, column_form, misfit_of, assign_of, is_signed}
 
 abbrev IsNoDecimal : SqlType → Type 0
 IsNoDecimal sql_type = (precision scale : ℕ) → ¬ (sql_type ≡ t.Decimal precision scale)
@@ -108,3 +110,33 @@ whole_stored sql_type d x n e = whole_number sql_type d n ∙ ap (λ y. if fits_
 
 pub too_wide_whole : (sql_type : SqlType) (u : ℤ) → ¬ (FitsSigned w64 u) → fits_of sql_type (v.Int u) ≡ false
 too_wide_whole sql_type u wide = unfit_whole sql_type u (far u wide)
+
+-- a value of the type is in the column's form already
+same_scale : (d : Dec) (scale : ℕ) → d.scale ≡ scale → record { units = units_at d scale; scale = scale } ≡ d
+unfolding units_at one
+same_scale d scale e =
+    let at : units_at d d.scale ≡ d.units = cond-true _ _ _ (le-leb d.scale d.scale (omega arith)) ∙ ap (λ k. d.units *ℤ pos (10 ^ k)) (sub_self d.scale) ∙ *ℤ-one d.units in
+    subst (λ k. record { units = units_at d k; scale = k } ≡ d) e (λ i. record { units = at i; scale = d.scale })
+
+form_kept : (sql_type : SqlType) (a : Value) → fits_of sql_type a ≡ true → column_form sql_type a ≡ a
+form_kept (t.Decimal precision scale) v.Null h = refl
+form_kept (t.Decimal precision scale) (v.Int n) h = cc
+form_kept (t.Decimal precision scale) (v.Dec d) h =
+    let parts = and_parts ((d.scale == scale) && nat_le scale 38) (nat_lt (unsigned_abs d.units) (10 ^ min precision 38)) h in
+    ap v.Dec (same_scale d scale (eqb-true d.scale scale (and_parts (d.scale == scale) (nat_le scale 38) parts.0).0))
+form_kept (t.Decimal precision scale) a h = refl
+form_kept sql_type (v.Dec d) h = cc
+form_kept sql_type a h = refl
+
+pub assign_of-kept : (sql_type : SqlType) (a : Value) → fits_of sql_type a ≡ true → assign_of sql_type a ≡ Ok a
+assign_of-kept sql_type a h =
+    let form = form_kept sql_type a h in
+    cond-true _ _ _ (ap (fits_of sql_type) form ∙ h) ∙ ap Ok form
+
+pub assign_of-fits : (sql_type : SqlType) (a b : Value) → assign_of sql_type a ≡ Ok b → fits_of sql_type b ≡ true
+assign_of-fits sql_type a b h = elim (cases_Bool (fits_of sql_type (column_form sql_type a))) [
+  | inl held ↦
+      let at : assign_of sql_type a ≡ Ok (column_form sql_type a) = cond-true _ _ _ held in
+      let same : column_form sql_type a ≡ b = cc in ap (fits_of sql_type) (sym same) ∙ held
+  | inr other ↦ let at : assign_of sql_type a ≡ Err (misfit_of a) = cond-false _ _ _ other in cc
+]

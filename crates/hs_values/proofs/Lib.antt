@@ -1,4 +1,5 @@
 pub mod Assigned
+pub mod Bags
 pub mod DecimalWidths
 pub mod Keys
 pub mod Lawful

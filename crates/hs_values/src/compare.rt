@@ -36,12 +36,14 @@ fn compare_raised(a: i128, noughts: u8, b: i128) -> Ordering
     }
 }
 
-#[tactic(auto, using(crate::proofs::Scales::raised_cmp, crate::proofs::Scales::lowered_cmp))]
+#[tactic(auto, using(crate::proofs::Scales::level_cmp, crate::proofs::Scales::raised_cmp, crate::proofs::Scales::lowered_cmp))]
 /// Two decimals as numbers, exactly.
 fn compare_numbers(a: Dec, b: Dec) -> Ordering
     ensures { result ≡ number_cmp a b }
 {
-    if a.scale <= b.scale {
+    if a.scale == b.scale {
+        a.units.cmp(&b.units)
+    } else if a.scale < b.scale {
         compare_raised(a.units, b.scale - a.scale, b.units)
     } else {
         compare_raised(b.units, a.scale - b.scale, a.units).reverse()

@@ -76,11 +76,12 @@ pub fn fits(t: &SqlType, v: &Value) -> bool
     match (t, v) {
         (_, Value::Null) => true,
         (_, Value::Int(n)) => has_whole(t, *n),
-        (SqlType::Decimal { precision, scale }, Value::Dec(d)) => has_digits(
-            *precision, *scale, *d,
-        ),
-        (SqlType::Varchar { max }, Value::Text(text)) => characters(text.as_str())
-            <= usize::from(*max),
+        (SqlType::Decimal { precision, scale }, Value::Dec(d)) => {
+            has_digits(*precision, *scale, *d)
+        }
+        (SqlType::Varchar { max }, Value::Text(text)) => {
+            characters(text.as_str()) <= usize::from(*max)
+        }
         (SqlType::Bool, Value::Bool(_)) => true,
         (SqlType::Date, Value::Day(day)) => FIRST_DAY <= *day && *day <= LAST_DAY,
         (SqlType::Stamp, Value::Micros(micros)) => FIRST_MICRO <= *micros && *micros <= LAST_MICRO,
