@@ -1,3 +1,6 @@
 pub mod DayLemmas
+pub mod FractionLemmas
 pub mod MoveLemmas
+pub mod ReadingLemmas
+pub mod StampLemmas
 pub mod TextLemmas

@@ -1,18 +1,26 @@
 -- Texts of fixed numbers of digits, and of the dates and times that they make.
-use Rattle.std.proofs.Common.{◌≡◌, ◌≢◌, ℕ, zero, suc, ◌+◌, ◌-◌, ◌*◌, ◌/◌, ◌%◌, ◌^◌, ◌<◌, ◌≤◌, List, [], ◌∷◌, ◌++◌, length, get_or, take, drop, codes, inl, inr, refl, sym, ap, ◌∙◌, arith, rules, length-append, append_assoc, add-one, drop-cons}
+use Rattle.std.proofs.Common.{◌≡◌, ◌≢◌, ℕ, zero, suc, ◌+◌, ◌-◌, ◌*◌, ◌/◌, ◌%◌, ◌^◌, ◌<◌, ◌≤◌, List, [], ◌∷◌, ◌++◌, length, get_or, take, drop, codes, inl, inr, refl, sym, ap, ◌∙◌, arith, rules, length-append, length-drop, append_assoc, add-one, drop-cons}
 use Rattle.std.specs.Prelude.{slice_range, replicate}
 use Rattle.std.proofs.Math.Seq.{get_or-append_seam}
 use Rattle.std.proofs.Math.ListN.{get_or-append}
 use Rattle.std.proofs.lemmas.Bool.{cases_lt}
+use Rattle.std.proofs.lemmas.List.{take-append-drop, length-take}
+use Rattle.std.proofs.lemmas.List.Folds.{drop_split}
 use Rattle.std.specs.Str.{IsAscii}
 use Rattle.std.proofs.lemmas.Str.{IsAscii-append}
 use Rattle.std.proofs.lemmas.Str.Ascii.{IsAscii-nil}
-use Rattle.hs_temporal.specs.Texts.{digits, civil_text, clock_text, time_text, fraction, filled}
+use Rattle.hs_temporal.specs.Texts.{digits, fields, clock_text, time_text, fraction, filled}
 
 pub length-digits : (places n : ℕ) → length (digits places n) ≡ places
 unfolding digits
 length-digits zero n = refl
 length-digits (suc places) n = simp length-append (omega (arith, length-digits places (n / 10)))
+
+-- digits are as many as the text has bytes
+pub as_long : (places n : ℕ) (text : List ℕ) → digits places n ≡ text → digits (length text) n ≡ text
+as_long places n text e =
+    let long : length text ≡ places = sym (ap length e) ∙ length-digits places n in
+    rw long e
 
 one_ascii : (n : ℕ) → n < 128 → IsAscii (n ∷ [])
 one_ascii n h zero = h
@@ -65,3 +73,65 @@ digit_at (suc places) n i h =
           let last : i ≡ length (digits places (n / 10)) = omega arith in
           rw (last, get_or-append_seam (digits places (n / 10)) (48 + n % 10) [] 0) (omega arith, omega arith)
     ]
+
+-- a text in the parts that two bytes separate
+pieces : (text : List ℕ) (places : ℕ) → length text ≡ places + 6 → text ≡ take places text ++ (get_or text places 0 ∷ (slice_range text (places + 1) (places + 3) ++ (get_or text (places + 3) 0 ∷ drop (places + 4) text)))
+pieces text places h =
+    let within : places < length text = omega arith in
+    let also : places + 3 < length text = omega arith in
+    let next : suc places ≡ places + 1 = omega arith in
+    let last : suc (places + 3) ≡ places + 4 = omega arith in
+    let one = rw next at (drop-cons text places 0 within) in
+    let two = drop_split text (places + 1) (places + 3) (omega arith) in
+    let three = rw last at (drop-cons text (places + 3) 0 also) in
+    sym (take-append-drop places text)
+    ∙ ap (λ rest. take places text ++ rest) (one
+    ∙ ap (λ rest. get_or text places 0 ∷ rest) (two
+    ∙ ap (λ rest. slice_range text (places + 1) (places + 3) ++ rest) three))
+
+-- what a text of three numbers holds at its places
+pub record AreFields (text : List ℕ) (places between a b c : ℕ) : Type 0 where
+  pub long : length text ≡ places + 6
+  pub first_byte : get_or text places 0 ≡ between
+  pub second_byte : get_or text (places + 3) 0 ≡ between
+  pub first : digits places a ≡ take places text
+  pub second : digits 2 b ≡ slice_range text (places + 1) (places + 3)
+  pub third : digits 2 c ≡ drop (places + 4) text
+
+-- the same text, grouped from the right
+fields_right : (places between a b c : ℕ) → fields places (between ∷ []) a b c ≡ digits places a ++ (between ∷ (digits 2 b ++ (between ∷ digits 2 c)))
+fields_right places between a b c = simp append_assoc refl
+
+pub length-fields : (places between a b c : ℕ) → length (fields places (between ∷ []) a b c) ≡ places + 6
+length-fields places between a b c =
+    let first = length-digits places a in
+    let second = length-digits 2 b in
+    let third = length-digits 2 c in
+    simp length-append (omega arith)
+
+pub fields_are : (text : List ℕ) (places between a b c : ℕ) → fields places (between ∷ []) a b c ≡ text → AreFields text places between a b c
+fields_are text places between a b c e =
+    let long : length text ≡ places + 6 = sym (ap length e) ∙ length-fields places between a b c in
+    let same = sym (fields_right places between a b c) ∙ e ∙ pieces text places long in
+    let front : length (digits places a) ≡ length (take places text) = rw (length-digits places a, length-take places text) (omega arith) in
+    let p = append_split (digits places a) (take places text) _ _ front same in
+    let byte : between ≡ get_or text places 0 = cc (p.1) in
+    let rest : digits 2 b ++ (between ∷ digits 2 c) ≡ slice_range text (places + 1) (places + 3) ++ (get_or text (places + 3) 0 ∷ drop (places + 4) text) = cc (p.1) in
+    let middle : length (digits 2 b) ≡ length (slice_range text (places + 1) (places + 3)) = rw (length-digits 2 b, length-take, length-drop) (omega arith) in
+    let q = append_split (digits 2 b) (slice_range text (places + 1) (places + 3)) _ _ middle rest in
+    record {
+      long = long;
+      first_byte = sym byte;
+      second_byte = cc (q.1);
+      first = p.0;
+      second = q.0;
+      third = cc (q.1);
+    }
+
+-- a text is that of one triple of numbers
+pub same_fields : (text : List ℕ) (places between a b c x y z : ℕ) → AreFields text places between a b c → AreFields text places between x y z → (a < 10 ^ places) × (b < 100) × (c < 100) → (x < 10 ^ places) × (y < 100) × (z < 100) → (a ≡ x) × (b ≡ y) × (c ≡ z)
+same_fields text places between a b c x y z h k small also = (
+  digits-injective places a x small.0 also.0 (h.first ∙ sym k.first),
+  digits-injective 2 b y (omega arith) (omega arith) (h.second ∙ sym k.second),
+  digits-injective 2 c z (omega arith) (omega arith) (h.third ∙ sym k.third),
+)

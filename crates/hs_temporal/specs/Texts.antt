@@ -7,20 +7,21 @@ unfoldable pub digits : ℕ → ℕ → List ℕ
 digits zero n = []
 digits (suc places) n = digits places (n / 10) ++ (48 + n % 10) ∷ []
 
--- a date in the calendar's terms, `YYYY-MM-DD`
-abbrev pub civil_text : ℕ → ℕ → ℕ → List ℕ
-civil_text year month day = digits 4 year ++ codes "-" ++ digits 2 month ++ codes "-" ++ digits 2 day
+-- three numbers with a text between them, the first in so many digits and the others in two
+abbrev pub fields : ℕ → List ℕ → ℕ → ℕ → ℕ → List ℕ
+fields places between first second third =
+    digits places first ++ between ++ digits 2 second ++ between ++ digits 2 third
 
--- the text of a day
+-- the text of a day, `YYYY-MM-DD`
 unfoldable pub date_text : ℤ → List ℕ
-date_text day = civil_text (year_of day) (month_of day) (monthday_of day)
+date_text day = fields 4 (codes "-") (year_of day) (month_of day) (monthday_of day)
 
 -- the time of day that many seconds after its beginning, `HH:MM:SS`
-abbrev pub clock_text : ℕ → List ℕ
-clock_text second = digits 2 (second / 3600) ++ codes ":" ++ digits 2 (second / 60 % 60) ++ codes ":" ++ digits 2 (second % 60)
+unfoldable pub clock_text : ℕ → List ℕ
+clock_text second = fields 2 (codes ":") (second / 3600) (second / 60 % 60) (second % 60)
 
 -- the time of day that many microseconds after its beginning, `HH:MM:SS.ffffff`
-abbrev pub time_text : ℕ → List ℕ
+unfoldable pub time_text : ℕ → List ℕ
 time_text time = clock_text (time / 1_000_000) ++ codes "." ++ digits 6 (time % 1_000_000)
 
 -- the text of a timestamp, `YYYY-MM-DD HH:MM:SS.ffffff`

@@ -1,7 +1,7 @@
 // Dates and timestamps that a text names.
-ghost use Rattle.std.specs.Prelude.{◌≡◌, ◌≢◌, ◌++◌, ◌≤◌, ◌<◌, ◌^◌, ℕ, ℤ, codes, length, MatchOption, MatchResult};
+ghost use Rattle.std.specs.Prelude.{◌≡◌, ◌≢◌, ◌+◌, ◌*◌, ◌+ℤ◌, ◌*ℤ◌, pos, ◌++◌, ◌∷◌, [], ◌≤◌, ◌<◌, ◌^◌, ℕ, ℤ, codes, length, MatchOption, MatchResult};
 ghost use Rattle.hs_temporal.specs.Days.{IsDay, IsMicros};
-ghost use Rattle.hs_temporal.specs.Texts.{date_text, stamp_text, clock_text, digits, fraction, filled};
+ghost use Rattle.hs_temporal.specs.Texts.{date_text, stamp_text, clock_text, fields, digits, fraction, filled};
 ghost use Rattle.hs_temporal.specs.Reading.{date_in, stamp_in};
 
 use crate::calendar::day_at;
@@ -36,12 +36,7 @@ fn day_in(text: &[u8]) -> Option<i32>
     ensures { MatchOption result ((day : ℤ) → IsDay day → date_text day ≢ text.now)
         (λ day. IsDay day × (date_text day ≡ text.now)) }
 {
-    if text.len() != 10 || text[4] != b'-' || text[7] != b'-' {
-        return None;
-    }
-    let year = number_in(&text[..4])?;
-    let month = number_in(&text[5..7])?;
-    let day = number_in(&text[8..])?;
+    let (year, month, day) = fields_in(text, 4, b'-')?;
     day_at(year, month, day)
 }
 
@@ -56,21 +51,26 @@ fn micros_in(text: &[u8]) -> Option<i64>
     let day = day_in(&text[..10])?;
     let seconds = seconds_in(&text[11..19])?;
     let fraction = fraction_in(&text[19..])?;
-    Some(i64::from(day) * DAY + i64::from(seconds) * 1_000_000 + i64::from(fraction))
+    Some(micros_at(day, seconds, fraction))
+}
+
+// The time so many seconds and microseconds after the beginning of a day.
+fn micros_at(day: i32, second: u32, fraction: u32) -> i64
+    requires day_in { IsDay day }
+    requires second_in { second < 86_400 }
+    requires fraction_in { fraction < 1_000_000 }
+    ensures { result ≡ day *ℤ pos 86_400_000_000 +ℤ pos (second * 1_000_000 + fraction) }
+{
+    let time = u64::from(second) * 1_000_000 + u64::from(fraction);
+    i64::from(day) * DAY + time as i64
 }
 
 // The seconds since the beginning of the day, of a text `HH:MM:SS`.
 fn seconds_in(text: &[u8]) -> Option<u32>
-    requires { length text.now ≡ 8 }
     ensures { MatchOption result ((second : ℕ) → second < 86_400 → clock_text second ≢ text.now)
         (λ second. (second < 86_400) × (clock_text second ≡ text.now)) }
 {
-    if text[2] != b':' || text[5] != b':' {
-        return None;
-    }
-    let hour = number_in(&text[..2])?;
-    let minute = number_in(&text[3..5])?;
-    let second = number_in(&text[6..])?;
+    let (hour, minute, second) = fields_in(text, 2, b':')?;
     if hour > 23 || minute > 59 || second > 59 {
         return None;
     }
@@ -91,6 +91,23 @@ fn fraction_in(text: &[u8]) -> Option<u32>
     }
     let digits = number_in(&text[1..])?;
     Some(digits * 10_u32.pow(7 - text.len() as u32))
+}
+
+// Three numbers with a byte between them, the first in so many digits and the others in two.
+fn fields_in(text: &[u8], places: usize, between: u8) -> Option<(u32, u32, u32)>
+    requires { places ≤ 4 }
+    ensures { MatchOption result
+        ((a b c : ℕ) → fields places (between ∷ []) a b c ≢ text.now)
+        (λ f. (f.0 < 10 ^ places) × (f.1 < 100) × (f.2 < 100)
+            × (fields places (between ∷ []) f.0 f.1 f.2 ≡ text.now)) }
+{
+    if text.len() != places + 6 || text[places] != between || text[places + 3] != between {
+        return None;
+    }
+    let first = number_in(&text[..places])?;
+    let second = number_in(&text[places + 1..places + 3])?;
+    let third = number_in(&text[places + 4..])?;
+    Some((first, second, third))
 }
 
 // The number that decimal digits write, and `None` where a byte is no digit.
