@@ -53,6 +53,11 @@ fraction-long (point ∷ digit ∷ more) h =
     let e : 5 - length more ≡ 7 - length (point ∷ digit ∷ more) = omega arith in
     ap (λ k. (point ∷ digit ∷ more) ++ replicate k 48) e
 
+pub fraction-full : (text : List ℕ) → length text ≡ 7 → fraction text ≡ text
+fraction-full text h =
+    let none : 7 - length text ≡ 0 = omega arith in
+    fraction-long text (omega arith) ∙ rw none (append-nil text)
+
 pub no_fraction : (text : List ℕ) → length text ≡ 0 → codes "." ++ digits 6 0 ≡ fraction text
 unfolding fraction digits
 no_fraction [] h = refl

@@ -1,7 +1,7 @@
 -- The texts of days and times name one day and one time.
 use Rattle.std.proofs.Common.{◌≡◌, ◌≢◌, ℕ, zero, suc, ◌+◌, ◌-◌, ◌*◌, ◌/◌, ◌%◌, ◌^◌, ◌<◌, ◌≤◌, List, [], ◌∷◌, ◌++◌, length, get_or, take, drop, codes, append_assoc, length-append, length-drop, drop-cons, Option, Some, None, MatchOption, refl, sym, ap, ◌∙◌, arith, rules, ℤ, pos, ◌+ℤ◌, ◌*ℤ◌}
-use Rattle.std.proofs.Math.Seq.{take-add}
-use Rattle.std.proofs.lemmas.List.{length-take, take_all, nil_from_length}
+use Rattle.std.proofs.Math.Seq.{take-add, take-append-add}
+use Rattle.std.proofs.lemmas.List.{length-take, take-append-drop, take_all, nil_from_length, append-nil}
 use Rattle.std.specs.Prelude.{slice_range, replicate}
 use Rattle.jiff_core.specs.Calendar.{IsCivilDate, days_from_civil}
 use Rattle.jiff_core.proofs.SignedLemmas.{signed_arith}
@@ -9,7 +9,10 @@ use Rattle.jiff_core.proofs.CalendarLemmas.{days_in_month_bounds}
 use Rattle.hs_temporal.specs.Days.{IsDay, IsMicros, year_of, month_of, monthday_of, day_of, time_of}
 use Rattle.hs_temporal.specs.Texts.{digits, fields, date_text, clock_text, time_text, stamp_text, fraction, filled}
 use Rattle.hs_temporal.proofs.DayLemmas.{civil_parts, civil_day}
-use Rattle.hs_temporal.proofs.TextLemmas.{append_split, length-digits, digits-injective, length-fields, fields_are, AreFields, same_fields}
+use Rattle.std.specs.Str.{IsAscii}
+use Rattle.std.proofs.lemmas.Str.{IsAscii-append}
+use Rattle.hs_temporal.proofs.FractionLemmas.{fraction-full}
+use Rattle.hs_temporal.proofs.TextLemmas.{one_ascii, IsAscii-digits, IsAscii-fields, append_split, length-digits, digits-injective, length-fields, fields_are, AreFields, same_fields}
 
 pub date_text-fields : (day : ℤ) → date_text day ≡ fields 4 (45 ∷ []) (year_of day) (month_of day) (monthday_of day)
 unfolding date_text
@@ -187,4 +190,38 @@ stamp_text-injective a b h k e =
 -- the text of a timestamp has all six digits already
 pub filled-stamp_text : (micros : ℤ) → filled (stamp_text micros) ≡ stamp_text micros
 unfolding filled
-filled-stamp_text micros = ?
+filled-stamp_text micros =
+    let text = stamp_text micros in
+    let seven : length (drop 19 text) ≡ 7 = length-drop 19 text ∙ ap (λ n. n - 19) (length-stamp_text micros) in
+    ap (λ part. take 19 text ++ part) (fraction-full (drop 19 text) seven) ∙ take-append-drop 19 text
+
+-- texts are ASCII
+pub IsAscii-date_text : (day : ℤ) → IsAscii (date_text day)
+IsAscii-date_text day = rw (date_text-fields day) (IsAscii-fields 4 45 (year_of day) (month_of day) (monthday_of day) (omega arith))
+
+pub IsAscii-stamp_text : (micros : ℤ) → IsAscii (stamp_text micros)
+unfolding stamp_text time_text
+IsAscii-stamp_text micros =
+    let clock = time_of micros / 1_000_000 in
+    let ascii : IsAscii (clock_text clock) = rw (clock_text-fields clock) (IsAscii-fields 2 58 (clock / 3600) (clock / 60 % 60) (clock % 60) (omega arith)) in
+    IsAscii-append _ _ (IsAscii-append _ _ (IsAscii-date_text (day_of micros)) (one_ascii 32 (omega arith)))
+    (IsAscii-append _ _ (IsAscii-append _ _ ascii (one_ascii 46 (omega arith))) (IsAscii-digits 6 (time_of micros % 1_000_000)))
+
+-- a time of day from its bytes
+pub time_text-parts : (time : ℕ) (clock part : List ℕ) → clock ≡ clock_text (time / 1_000_000) → part ≡ digits 6 (time % 1_000_000) → clock ++ (46 ∷ part) ≡ time_text time
+unfolding time_text
+time_text-parts time clock part e f = rw (e, f) (sym (append_assoc (clock_text (time / 1_000_000)) (46 ∷ []) (digits 6 (time % 1_000_000))))
+
+-- a timestamp from its bytes, where the date and the time are written over spaces
+pub stamp_text-parts : (micros : ℤ) (date time : List ℕ) → date ≡ date_text (day_of micros) → time ≡ time_text (time_of micros) → take 11 (date ++ replicate 16 32) ++ (time ++ drop 15 (drop 11 (date ++ replicate 16 32))) ≡ stamp_text micros
+unfolding stamp_text
+stamp_text-parts micros date time e f =
+    let ten : length date ≡ 10 = ap length e ∙ length-date_text (day_of micros) in
+    let front : take 11 (date ++ replicate 16 32) ≡ date ++ 32 ∷ [] = rw ten at (take-append-add date (replicate 16 32) 1) in
+    let long : length (drop 15 (drop 11 (date ++ replicate 16 32))) ≡ 0 =
+      length-drop 15 (drop 11 (date ++ replicate 16 32)) ∙ ap (λ n. n - 15) (length-drop 11 (date ++ replicate 16 32) ∙ ap (λ n. n - 11) (length-append date (replicate 16 32) ∙ ap (λ n. n + 16) ten)) in
+    let none : drop 15 (drop 11 (date ++ replicate 16 32)) ≡ [] = nil_from_length _ long in
+    ap (λ part. part ++ (time ++ drop 15 (drop 11 (date ++ replicate 16 32)))) front
+    ∙ ap (λ rest. (date ++ 32 ∷ []) ++ (time ++ rest)) none
+    ∙ ap (λ rest. (date ++ 32 ∷ []) ++ rest) (append-nil time)
+    ∙ rw (e, f) refl

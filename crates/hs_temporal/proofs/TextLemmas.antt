@@ -22,7 +22,7 @@ as_long places n text e =
     let long : length text ≡ places = sym (ap length e) ∙ length-digits places n in
     rw long e
 
-one_ascii : (n : ℕ) → n < 128 → IsAscii (n ∷ [])
+pub one_ascii : (n : ℕ) → n < 128 → IsAscii (n ∷ [])
 one_ascii n h zero = h
 one_ascii n h (suc i) = omega arith
 
@@ -135,3 +135,32 @@ same_fields text places between a b c x y z h k small also = (
   digits-injective 2 b y (omega arith) (omega arith) (h.second ∙ sym k.second),
   digits-injective 2 c z (omega arith) (omega arith) (h.third ∙ sym k.third),
 )
+
+pub IsAscii-fields : (places between a b c : ℕ) → between < 128 → IsAscii (fields places (between ∷ []) a b c)
+IsAscii-fields places between a b c h =
+    IsAscii-append _ _ (IsAscii-append _ _ (IsAscii-append _ _ (IsAscii-append _ _ (IsAscii-digits places a) (one_ascii between h)) (IsAscii-digits 2 b)) (one_ascii between h)) (IsAscii-digits 2 c)
+
+-- the bytes of a date
+pub date_bytes_are : (year month day a b c d e f g h : ℕ) → (a ≡ 48 + year / 1000 % 10) × (b ≡ 48 + year / 100 % 10) × (c ≡ 48 + year / 10 % 10) × (d ≡ 48 + year % 10) → (e ≡ 48 + month / 10 % 10) × (f ≡ 48 + month % 10) → (g ≡ 48 + day / 10 % 10) × (h ≡ 48 + day % 10) → a ∷ b ∷ c ∷ d ∷ 45 ∷ e ∷ f ∷ 45 ∷ g ∷ h ∷ [] ≡ fields 4 (45 ∷ []) year month day
+unfolding digits
+date_bytes_are year month day a b c d e f g h years months days =
+    let hundred : year / 10 / 10 ≡ year / 100 = omega arith in
+    let thousand : year / 10 / 10 / 10 ≡ year / 1000 = omega arith in
+    rw (years.0, years.1, years.2, years.3, months.0, months.1, days.0, days.1, thousand, hundred) refl
+
+-- the bytes of a time of day
+pub clock_bytes_are : (hour minute second a b c d e f : ℕ) → (a ≡ 48 + hour / 10 % 10) × (b ≡ 48 + hour % 10) → (c ≡ 48 + minute / 10 % 10) × (d ≡ 48 + minute % 10) → (e ≡ 48 + second / 10 % 10) × (f ≡ 48 + second % 10) → a ∷ b ∷ 58 ∷ c ∷ d ∷ 58 ∷ e ∷ f ∷ [] ≡ fields 2 (58 ∷ []) hour minute second
+unfolding digits
+clock_bytes_are hour minute second a b c d e f hours minutes seconds =
+    rw (hours.0, hours.1, minutes.0, minutes.1, seconds.0, seconds.1) refl
+
+pub part_bytes_are : (n a b c d e f : ℕ) → (a ≡ 48 + n / 100_000 % 10) × (b ≡ 48 + n / 10_000 % 10) × (c ≡ 48 + n / 1000 % 10) × (d ≡ 48 + n / 100 % 10) × (e ≡ 48 + n / 10 % 10) × (f ≡ 48 + n % 10) → a ∷ b ∷ c ∷ d ∷ e ∷ f ∷ [] ≡ digits 6 (n % 1_000_000)
+unfolding digits
+part_bytes_are n a b c d e f h =
+    let one : f ≡ 48 + n % 1_000_000 % 10 = omega (arith, h) in
+    let two : e ≡ 48 + n % 1_000_000 / 10 % 10 = omega (arith, h) in
+    let three : d ≡ 48 + n % 1_000_000 / 10 / 10 % 10 = omega (arith, h) in
+    let four : c ≡ 48 + n % 1_000_000 / 10 / 10 / 10 % 10 = omega (arith, h) in
+    let five : b ≡ 48 + n % 1_000_000 / 10 / 10 / 10 / 10 % 10 = omega (arith, h) in
+    let six : a ≡ 48 + n % 1_000_000 / 10 / 10 / 10 / 10 / 10 % 10 = omega (arith, h) in
+    rw (one, two, three, four, five, six) refl
