@@ -1,5 +1,6 @@
 pub mod DayLemmas
 pub mod FractionLemmas
+pub mod KnownFacts
 pub mod MoveLemmas
 pub mod ReadingLemmas
 pub mod StampLemmas

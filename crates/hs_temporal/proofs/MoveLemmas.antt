@@ -44,8 +44,7 @@ day_at months day =
 -- so the library's sum of that date is the sum of the day
 same_sum : (d : Date) (day n : ℤ) → IsDateOf d day → (shifted_year d n ≡ later_year day n) × (add_months d n ≡ days_from_civil (later_year day n) (later_month day n) (later_monthday day n))
 same_sum d day n h =
-    let months : month_number d ≡ months_before day = omega (arith, signed_arith) in
-    (
+    let months : month_number d ≡ months_before day = omega (arith, signed_arith) in (
       ap (λ m. int_div_euclid (m +ℤ n) (pos 12)) months,
       ap (λ m. day_at (m +ℤ n) d.day) months ∙ ap (day_at (months_before day +ℤ n)) h.days,
     )

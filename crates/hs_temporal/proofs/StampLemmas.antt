@@ -105,7 +105,7 @@ unfolding filled
 text_parts text h =
     let within : 10 < length text = omega arith in
     let front : take 19 text ≡ take 10 text ++ (get_or text 10 0 ∷ slice_range text 11 19) =
-      take-add 10 9 text ∙ ap (λ rest. take 10 text ++ take 9 rest) (drop-cons text 10 0 within) in
+    take-add 10 9 text ∙ ap (λ rest. take 10 text ++ take 9 rest) (drop-cons text 10 0 within) in
     ap (λ part. part ++ fraction (drop 19 text)) front ∙ append_assoc (take 10 text) (get_or text 10 0 ∷ slice_range text 11 19) (fraction (drop 19 text))
 
 length-date_text : (day : ℤ) → length (date_text day) ≡ 10
@@ -158,8 +158,8 @@ stamp_same text micros h is =
     let clock = clock_text (time_of micros / 1_000_000) in
     let part = 46 ∷ digits 6 (time_of micros % 1_000_000) in
     let behind : 32 ∷ (clock ++ part) ≡ get_or text 10 0 ∷ (slice_range text 11 19 ++ fraction (drop 19 text)) =
-      ap (λ byte. byte ∷ (clock ++ part)) (sym is.space)
-      ∙ ap (λ rest. get_or text 10 0 ∷ rest) (ap (λ front. front ++ part) is.clock ∙ ap (λ rest. slice_range text 11 19 ++ rest) is.part) in
+    ap (λ byte. byte ∷ (clock ++ part)) (sym is.space)
+    ∙ ap (λ rest. get_or text 10 0 ∷ rest) (ap (λ front. front ++ part) is.clock ∙ ap (λ rest. slice_range text 11 19 ++ rest) is.part) in
     stamp_parts micros
     ∙ ap (λ front. front ++ (32 ∷ (clock ++ part))) is.date
     ∙ ap (λ rest. take 10 text ++ rest) behind
@@ -219,7 +219,7 @@ stamp_text-parts micros date time e f =
     let ten : length date ≡ 10 = ap length e ∙ length-date_text (day_of micros) in
     let front : take 11 (date ++ replicate 16 32) ≡ date ++ 32 ∷ [] = rw ten at (take-append-add date (replicate 16 32) 1) in
     let long : length (drop 15 (drop 11 (date ++ replicate 16 32))) ≡ 0 =
-      length-drop 15 (drop 11 (date ++ replicate 16 32)) ∙ ap (λ n. n - 15) (length-drop 11 (date ++ replicate 16 32) ∙ ap (λ n. n - 11) (length-append date (replicate 16 32) ∙ ap (λ n. n + 16) ten)) in
+    length-drop 15 (drop 11 (date ++ replicate 16 32)) ∙ ap (λ n. n - 15) (length-drop 11 (date ++ replicate 16 32) ∙ ap (λ n. n - 11) (length-append date (replicate 16 32) ∙ ap (λ n. n + 16) ten)) in
     let none : drop 15 (drop 11 (date ++ replicate 16 32)) ≡ [] = nil_from_length _ long in
     ap (λ part. part ++ (time ++ drop 15 (drop 11 (date ++ replicate 16 32)))) front
     ∙ ap (λ rest. (date ++ 32 ∷ []) ++ (time ++ rest)) none

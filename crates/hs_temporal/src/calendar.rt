@@ -25,7 +25,7 @@ pub fn day_at(year: u32, month: u32, day: u32) -> Option<i32>
     requires day_in { day < 100 }
     ensures { MatchOption result (1 ≤ year → ¬ (IsCivilDate (pos year) month day))
         (λ found. (1 ≤ year) × IsCivilDate (pos year) month day
-            × (found ≡ days_from_civil (pos year) month day)) }
+        × (found ≡ days_from_civil (pos year) month day)) }
 {
     if year == 0 {
         return None;

@@ -99,7 +99,7 @@ fn fields_in(text: &[u8], places: usize, between: u8) -> Option<(u32, u32, u32)>
     ensures { MatchOption result
         ((a b c : ℕ) → fields places (between ∷ []) a b c ≢ text.now)
         (λ f. (f.0 < 10 ^ places) × (f.1 < 100) × (f.2 < 100)
-            × (fields places (between ∷ []) f.0 f.1 f.2 ≡ text.now)) }
+        × (fields places (between ∷ []) f.0 f.1 f.2 ≡ text.now)) }
 {
     if text.len() != places + 6 || text[places] != between || text[places + 3] != between {
         return None;

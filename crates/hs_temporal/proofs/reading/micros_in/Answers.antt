@@ -38,7 +38,7 @@ returns c =
     let clock = c.in_ok-seconds.ensures in
     let part = c.in_ok-fraction.ensures in
     let is : IsStamped text c.in_ok-day.day c.in_ok-seconds.seconds c.in_ok-fraction.fraction =
-      record { date = date.1; space = c.if-text-ne32.false; clock = clock.1; part = part.1 ∙ ap fraction (take_rest text 19) } in
+    record { date = date.1; space = c.if-text-ne32.false; clock = clock.1; part = part.1 ∙ ap fraction (take_rest text 19) } in
     let fits_day : FitsSigned w32 c.in_ok-day.day = omega (arith, ints, date.0) in
     let fits : FitsSigned w64 c.micros_at.result = search rules in
     let value = simp to_z-of_z at c.micros_at.ensures in

@@ -22,5 +22,5 @@ loop-byte-preserved c =
     record {
       small = rw add-one (omega arith);
       read = rw add-one (digits-suc at c.loop-byte.number c.from.result digit.0
-        ∙ rw (digit.1, c.loop-byte.invariant.read) (sym (take-suc text at 0 within)));
+          ∙ rw (digit.1, c.loop-byte.invariant.read) (sym (take-suc text at 0 within)));
     }
