@@ -7,6 +7,11 @@ use Rattle.std.proofs.Math.Nat.{pow-le-pow_right, mul-le-mul_right}
 use Rattle.hs_temporal.specs.Texts.{digits, fraction}
 use Rattle.hs_temporal.proofs.TextLemmas.{length-digits, append_split}
 
+replicate-last : (more byte : ℕ) → replicate more byte ++ byte ∷ [] ≡ replicate (suc more) byte
+replicate-last more byte =
+    let one : more + 1 ≡ suc more = omega arith in
+    replicate-append-replicate more 1 byte ∙ ap (λ k. replicate k byte) one
+
 -- zeros behind a number's digits are those of its multiple by a power of ten
 pub digits-zeros : (places more n : ℕ) → digits (places + more) (n * 10 ^ more) ≡ digits places n ++ replicate more 48
 unfolding digits
@@ -19,10 +24,9 @@ digits-zeros places (suc more) n =
     let tenfold : n * 10 ^ suc more ≡ n * 10 ^ more * 10 = rw (pow-suc 10 more) (grind arith) in
     let front : n * 10 ^ suc more / 10 ≡ n * 10 ^ more = omega arith in
     let last : n * 10 ^ suc more % 10 ≡ 0 = omega arith in
-    let one : suc more ≡ more + 1 = omega arith in
     rw (next, front, last) (ap (λ ds. ds ++ 48 ∷ []) (digits-zeros places more n)
     ∙ append_assoc (digits places n) (replicate more 48) (48 ∷ [])
-    ∙ ap (λ ds. digits places n ++ ds) (replicate-append-replicate more 1 48 ∙ ap (λ k. replicate k 48) (sym one)))
+    ∙ ap (λ ds. digits places n ++ ds) (replicate-last more 48))
 
 -- the first of a number's digits are those of a smaller number
 pub record Front (places more n : ℕ) : Type 0 where

@@ -1,12 +1,12 @@
 -- Reading is the inverse of printing, both ways.
-use Rattle.std.proofs.Common.{◌≡◌, ◌≢◌, ℕ, zero, suc, ◌+◌, ◌-◌, ◌<◌, ◌≤◌, Bool, true, false, List, length, nat_eq, Option, Some, None, MatchOption, Result, Ok, Err, refl, sym, ap, ◌∙◌, arith, rules, ℤ, pos, neg_ℤ, ◌+ℤ◌, ◌<ℤ◌, ◌≤ℤ◌}
+use Rattle.std.proofs.Common.{◌≡◌, ◌≢◌, ℕ, zero, suc, ◌+◌, ◌-◌, ◌*◌, ◌<◌, ◌≤◌, Bool, true, false, List, length, nat_eq, Option, Some, None, MatchOption, Result, Ok, Err, refl, sym, ap, ◌∙◌, arith, rules, ℤ, pos, neg_ℤ, ◌+ℤ◌, ◌*ℤ◌, ◌<ℤ◌, ◌≤ℤ◌}
 use Rattle.std.specs.Prelude.{ok_or, if◌then◌else◌}
 use Rattle.std.specs.Cmp.Lexicographic.{pointwise, same_text, other_text}
 use Rattle.std.proofs.lemmas.Int.{by_lt_z}
 use Rattle.jiff_core.proofs.SignedLemmas.{signed_arith}
 use Rattle.hs_values.specs.declared.fault.EvalFault.{EvalFault}
 use Rattle.hs_values.specs.declared.fault.EvalFault.TheVariants.{BadDate}
-use Rattle.hs_temporal.specs.Days.{first_day, IsDay, IsMicros, day_of}
+use Rattle.hs_temporal.specs.Days.{first_day, day_total, day_micros, IsDay, IsMicros, day_of}
 use Rattle.hs_temporal.specs.Texts.{date_text, stamp_text, filled}
 use Rattle.hs_temporal.specs.Reading.{first_from, date_in, stamp_in}
 use Rattle.hs_temporal.proofs.StampLemmas.{date_text-injective, stamp_text-injective, filled-stamp_text, sum-time_of}
@@ -49,18 +49,18 @@ found_is Is text_of text low n range back one (Some y) (Some x) h found =
 pub date_in-reads : (text : List ℕ) (r : Option ℤ) → Reads IsDay date_text text r → ok_or r BadDate ≡ date_in text
 unfolding date_in
 date_in-reads text r h =
-    sym (ap (λ found. ok_or found BadDate) (found_is IsDay date_text text first_day 3_652_059
+    sym (ap (λ found. ok_or found BadDate) (found_is IsDay date_text text first_day day_total
     (λ x is. (is.0, omega (arith, signed_arith, is.1)))
     (λ x low high. (low, omega (arith, signed_arith, high)))
-    date_text-injective r _ h (finds _ first_day 3_652_059)))
+    date_text-injective r _ h (finds _ first_day day_total)))
 
 pub stamp_in-reads : (text : List ℕ) (r : Option ℤ) → Reads IsMicros stamp_text (filled text) r → ok_or r BadDate ≡ stamp_in text
 unfolding stamp_in
 stamp_in-reads text r h =
-    sym (ap (λ found. ok_or found BadDate) (found_is IsMicros stamp_text (filled text) (neg_ℤ (pos 62_135_596_800_000_000)) 315_537_897_600_000_000
+    sym (ap (λ found. ok_or found BadDate) (found_is IsMicros stamp_text (filled text) (first_day *ℤ pos day_micros) (day_total * day_micros)
     (λ x is. (omega (arith, signed_arith, is.0, sum-time_of x), omega (arith, signed_arith, is.1, sum-time_of x)))
     (λ x low high. (omega (arith, signed_arith, low, sum-time_of x), omega (arith, signed_arith, high, sum-time_of x)))
-    stamp_text-injective r _ h (finds _ (neg_ℤ (pos 62_135_596_800_000_000)) 315_537_897_600_000_000)))
+    stamp_text-injective r _ h (finds _ (first_day *ℤ pos day_micros) (day_total * day_micros))))
 
 -- reading gives back what was printed
 pub date_in-date_text : (day : ℤ) → IsDay day → date_in (date_text day) ≡ Ok day
@@ -79,11 +79,11 @@ found_text Is text_of text low n x back (Some y) found e =
 -- and what is read has the text
 pub date_text-date_in : (text : List ℕ) (day : ℤ) → date_in text ≡ Ok day → IsDay day × (date_text day ≡ text)
 unfolding date_in
-date_text-date_in text day e = found_text IsDay date_text text first_day 3_652_059 day (λ x low high. (low, omega (arith, signed_arith, high))) _ (finds _ first_day 3_652_059) e
+date_text-date_in text day e = found_text IsDay date_text text first_day day_total day (λ x low high. (low, omega (arith, signed_arith, high))) _ (finds _ first_day day_total) e
 
 pub stamp_text-stamp_in : (text : List ℕ) (micros : ℤ) → stamp_in text ≡ Ok micros → IsMicros micros × (stamp_text micros ≡ filled text)
 unfolding stamp_in
 stamp_text-stamp_in text micros e =
-    found_text IsMicros stamp_text (filled text) (neg_ℤ (pos 62_135_596_800_000_000)) 315_537_897_600_000_000 micros
+    found_text IsMicros stamp_text (filled text) (first_day *ℤ pos day_micros) (day_total * day_micros) micros
     (λ x low high. (omega (arith, signed_arith, low, sum-time_of x), omega (arith, signed_arith, high, sum-time_of x)))
-    _ (finds _ (neg_ℤ (pos 62_135_596_800_000_000)) 315_537_897_600_000_000) e
+    _ (finds _ (first_day *ℤ pos day_micros) (day_total * day_micros)) e

@@ -11,6 +11,10 @@ first_day = neg_ℤ (pos 719_162)
 abbrev pub last_day : ℤ
 last_day = pos 2_932_896
 
+-- how many days there are from the one to the other
+abbrev pub day_total : ℕ
+day_total = 3_652_059
+
 -- a day of the years 1 to 9999, for which SQL has dates
 abbrev pub IsDay : ℤ → Type 0
 IsDay day = IsBetween first_day last_day day
@@ -32,13 +36,17 @@ month_of day = count_to (λ month. int_le (days_from_civil (pos (year_of day)) m
 unfoldable pub monthday_of : ℤ → ℕ
 monthday_of day = unsigned_abs (day -ℤ days_from_civil (pos (year_of day)) (month_of day) 1) + 1
 
--- the day in which a time lies, at 86,400,000,000 microseconds a day
+-- the microseconds of a day, which has 24 hours and no leap second
+abbrev pub day_micros : ℕ
+day_micros = 86_400_000_000
+
+-- the day in which a time lies
 abbrev pub day_of : ℤ → ℤ
-day_of micros = int_div_euclid micros (pos 86_400_000_000)
+day_of micros = int_div_euclid micros (pos day_micros)
 
 -- the microseconds of that day that have passed by then
 abbrev pub time_of : ℤ → ℕ
-time_of micros = unsigned_abs (int_rem_euclid micros (pos 86_400_000_000))
+time_of micros = unsigned_abs (int_rem_euclid micros (pos day_micros))
 
 -- a time of the years 1 to 9999
 abbrev pub IsMicros : ℤ → Type 0

@@ -15,8 +15,9 @@ const FIRST_DAY: i64 = -719_162;
 const LAST_DAY: i64 = 2_932_896;
 
 /// The day that many days later, or earlier for a negative number. Days are numbered from
-/// 1970-01-01, which is 0. The fault is `Range`, where the sum leaves the years 1 to 9999, for
-/// which SQL has dates.
+/// 1970-01-01, which is 0, in the Gregorian calendar that ISO 8601 extends to all years. The fault
+/// is `Range`, where the sum leaves the years 1 to 9999, for which SQL has dates. It takes no
+/// memory.
 pub fn plus_days(day: i32, n: i64) -> Result<i32, EvalFault>
     requires { IsDay day }
     ensures value { result ≡ days_later day n }
@@ -31,7 +32,7 @@ pub fn plus_days(day: i32, n: i64) -> Result<i32, EvalFault>
 /// The day that many months later, or earlier for a negative number: the same day of its month, or
 /// the month's last where it is shorter, as 2024-02-29 for 2024-01-31 and one month. Days are
 /// numbered from 1970-01-01, which is 0. The fault is `Range`, where the sum leaves the years 1 to
-/// 9999, for which SQL has dates.
+/// 9999, for which SQL has dates. It takes no memory.
 pub fn plus_months(day: i32, n: i64) -> Result<i32, EvalFault>
     requires { IsDay day }
     ensures value { result ≡ months_later day n }

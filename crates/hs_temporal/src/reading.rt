@@ -9,8 +9,9 @@ use crate::parts::DAY;
 use hs_values::EvalFault;
 
 /// The day whose text this is: `YYYY-MM-DD`, ten bytes, of a day of the years 0001 to 9999 that
-/// the Gregorian calendar has. Days are numbered from 1970-01-01, which is 0. The fault is
-/// `BadDate`, where no day has this text.
+/// the Gregorian calendar has. This is the text of SQL's DATE literal (ISO/IEC 9075-2, `<date
+/// value>`) in full width. Days are numbered from 1970-01-01, which is 0. The fault is `BadDate`,
+/// where no day has this text. Reading is the inverse of printing. It takes no memory.
 pub fn read_date(text: &str) -> Result<i32, EvalFault>
     ensures value { result ≡ date_in text.now }
     ensures inverse { MatchResult result (λ day. IsDay day × (date_text day ≡ text.now))
@@ -20,9 +21,11 @@ pub fn read_date(text: &str) -> Result<i32, EvalFault>
 }
 
 /// The timestamp whose text this is: a date, one space, and `HH:MM:SS` with an optional point and
-/// one to six digits behind it, which are filled up with zeros to six. It is given in microseconds
-/// since the beginning of 1970-01-01. The fault is `BadDate`, where no timestamp has this text, as
-/// at hour 24, at second 60, or at a point without digits.
+/// one to six digits behind it, which are filled up with zeros to six. This is the text of SQL's
+/// TIMESTAMP literal (ISO/IEC 9075-2, `<timestamp string>`) without time zone and leap second. The
+/// answer is in microseconds since the beginning of 1970-01-01. The fault is `BadDate`, where no
+/// timestamp has this text, as at hour 24, at second 60, or at a point without digits. It takes no
+/// memory.
 pub fn read_stamp(text: &str) -> Result<i64, EvalFault>
     ensures value { result ≡ stamp_in text.now }
     ensures inverse { MatchResult result
