@@ -1,0 +1,5 @@
+pub mod DecimalWidths
+pub mod Lawful
+pub mod Rows
+pub mod Scales
+pub mod Stable

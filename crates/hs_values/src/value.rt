@@ -1,5 +1,6 @@
 // SQL values.
 ghost use Rattle.std.specs.Prelude.{◌≡◌, IfOk};
+ghost use Rattle.hs_values.specs.Order.{seen};
 
 use crate::chars::Chars;
 use std::alloc::AllocError;
@@ -31,7 +32,41 @@ pub enum Value {
     Micros(i64),
 }
 
+/// A value whose text is borrowed.
+#[derive(Clone, Copy, Debug)]
+pub enum ValueRef<'a> {
+    /// SQL's NULL.
+    Null,
+    /// A SMALLINT, an INTEGER or a BIGINT.
+    Int(i64),
+    /// A DECIMAL.
+    Dec(Dec),
+    /// A VARCHAR.
+    Text(&'a str),
+    /// A BOOLEAN.
+    Bool(bool),
+    /// A DATE, as the number of its day.
+    Day(i32),
+    /// A TIMESTAMP, in microseconds.
+    Micros(i64),
+}
+
 impl Value {
+    /// The same value, its text borrowed from this one.
+    pub fn as_value_ref(&self) -> ValueRef<'_>
+        ensures { seen result ≡ self.now }
+    {
+        match self {
+            Value::Null => ValueRef::Null,
+            Value::Int(n) => ValueRef::Int(*n),
+            Value::Dec(d) => ValueRef::Dec(*d),
+            Value::Text(t) => ValueRef::Text(t.as_str()),
+            Value::Bool(b) => ValueRef::Bool(*b),
+            Value::Day(d) => ValueRef::Day(*d),
+            Value::Micros(m) => ValueRef::Micros(*m),
+        }
+    }
+
     pub fn copy(&self) -> Result<Value, AllocError>
         ensures { IfOk result (λ copied. copied ≡ self.now) }
     {

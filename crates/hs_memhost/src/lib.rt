@@ -1,0 +1,12 @@
+//! Hosts in memory, for tests and for programs that want no files. Both tell their bytes, and proofs
+//! about programs over them speak of those.
+#![tactic(auto)]
+
+mod call_list;
+mod input;
+mod memory;
+mod never;
+
+pub use call_list::CallList;
+pub use memory::MemHost;
+pub use never::NeverFails;

@@ -1,0 +1,116 @@
+// The order of values and of rows.
+ghost use Rattle.std.specs.Prelude.{◌≡◌, ◌^◌, pos, ◌*ℤ◌, SomeIff, FitsSigned, OnOk, OnErr, map};
+ghost use Rattle.std.specs.Int.{w128};
+ghost use Rattle.std.specs.Ordering.{int_cmp};
+ghost use Rattle.hs_values.specs.Order.{seen, whole, kind_of, number_cmp, order_of, row_order_of};
+ghost use Rattle.hs_values.specs.Sorted.{sorted_by, sorted_rows};
+
+use crate::decimal::{MOST_DIGITS, ten_to};
+use crate::row::Row;
+use crate::value::{Dec, Value, ValueRef};
+use std::alloc::AllocError;
+use std::cmp::Ordering;
+
+#[tactic(auto, using(crate::proofs::Scales::too_many_noughts))]
+/// `units` with so many noughts behind it, where this fits.
+fn with_noughts(units: i128, noughts: u8) -> Option<i128>
+    ensures { SomeIff result (FitsSigned w128 (units *ℤ pos (10 ^ noughts))) (units *ℤ pos (10 ^ noughts)) }
+{
+    if units == 0 {
+        Some(0)
+    } else if noughts > MOST_DIGITS {
+        None
+    } else {
+        units.checked_mul(ten_to(noughts))
+    }
+}
+
+#[tactic(auto, using(crate::proofs::Scales::ten_positive, crate::proofs::Scales::signs_of_wide))]
+/// `a` with so many noughts behind it, compared with `b`.
+fn compare_raised(a: i128, noughts: u8, b: i128) -> Ordering
+    ensures { result ≡ int_cmp (a *ℤ pos (10 ^ noughts)) b }
+{
+    match with_noughts(a, noughts) {
+        Some(raised) => raised.cmp(&b),
+        None => a.cmp(&0),
+    }
+}
+
+#[tactic(auto, using(crate::proofs::Scales::raised_cmp, crate::proofs::Scales::lowered_cmp))]
+/// Two decimals as numbers, exactly.
+fn compare_numbers(a: Dec, b: Dec) -> Ordering
+    ensures { result ≡ number_cmp a b }
+{
+    if a.scale <= b.scale {
+        compare_raised(a.units, b.scale - a.scale, b.units)
+    } else {
+        compare_raised(b.units, a.scale - b.scale, a.units).reverse()
+    }
+}
+
+/// A whole number as a decimal.
+fn whole(n: i64) -> Dec
+    ensures { result ≡ whole n }
+{
+    Dec {
+        units: i128::from(n),
+        scale: 0,
+    }
+}
+
+/// Where a kind of value stands among the kinds.
+fn kind_of(a: ValueRef<'_>) -> u8
+    ensures { result ≡ kind_of (seen a.entry) }
+{
+    match a {
+        ValueRef::Null => 0,
+        ValueRef::Int(_) | ValueRef::Dec(_) => 1,
+        ValueRef::Text(_) => 2,
+        ValueRef::Bool(_) => 3,
+        ValueRef::Day(_) => 4,
+        ValueRef::Micros(_) => 5,
+    }
+}
+
+/// The order of all values, in which a list of them is sorted: NULL first, then numbers, texts, truth
+/// values, dates and timestamps. Numbers compare as numbers, exactly and at any scales, so that 1 and
+/// 1.00 are equal; texts compare by their UTF-8 bytes; FALSE is before TRUE. Takes no memory.
+pub fn order(a: ValueRef<'_>, b: ValueRef<'_>) -> Ordering
+    ensures { result ≡ order_of (seen a.entry) (seen b.entry) }
+{
+    match (a, b) {
+        (ValueRef::Null, ValueRef::Null) => Ordering::Equal,
+        (ValueRef::Int(x), ValueRef::Int(y)) => x.cmp(&y),
+        (ValueRef::Int(x), ValueRef::Dec(y)) => compare_numbers(whole(x), y),
+        (ValueRef::Dec(x), ValueRef::Int(y)) => compare_numbers(x, whole(y)),
+        (ValueRef::Dec(x), ValueRef::Dec(y)) => compare_numbers(x, y),
+        (ValueRef::Text(x), ValueRef::Text(y)) => x.cmp(y),
+        (ValueRef::Bool(x), ValueRef::Bool(y)) => x.cmp(&y),
+        (ValueRef::Day(x), ValueRef::Day(y)) => x.cmp(&y),
+        (ValueRef::Micros(x), ValueRef::Micros(y)) => x.cmp(&y),
+        _ => kind_of(a).cmp(&kind_of(b)),
+    }
+}
+
+/// The order of two rows: that of the first column from the left in which they differ, and a row
+/// stands before a longer one that begins with it. Takes no memory.
+pub fn order_rows(a: &[Value], b: &[Value]) -> Ordering
+    ensures { result ≡ row_order_of a.now b.now }
+{
+    for (x, y) in a.iter().zip(b) {
+        match order(x.as_value_ref(), y.as_value_ref()) {
+            Ordering::Equal => {}
+            decided => return decided,
+        }
+    }
+    a.len().cmp(&b.len())
+}
+
+/// Sorts rows by `order_rows`, ascending; equal rows stay as they stood. Takes memory for more than
+/// twenty rows, and after an `Err`, which is want of it, nothing is moved.
+pub fn sort_rows(rows: &mut Vec<&Row>) -> Result<(), AllocError>
+    ensures ok { OnOk result (map (λ r. r.now) rows.new.items ≡ sorted_rows (map (λ r. r.now) rows.old.items)) }
+    ensures err { OnErr result (rows.new.items ≡ rows.old.items) }
+{
+    rows.sort_by(|a, b| order_rows(a.as_slice(), b.as_slice()))
+}
