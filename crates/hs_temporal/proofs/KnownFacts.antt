@@ -1,10 +1,9 @@
 -- Values that the calendar and the texts give, so that a wrong rule in the specs does not check.
-use Rattle.std.proofs.Common.{◌≡◌, ℕ, ◌≤◌, List, [], ◌∷◌, codes, Ok, Err, refl, sym, ap, subst, ◌∙◌, arith, rules, ℤ, pos, neg_ℤ}
-use Rattle.jiff_core.specs.Calendar.{days_from_civil, day_count, days_of_years, days_of_months, IsCivilDate}
-use Rattle.hs_values.specs.declared.fault.EvalFault.TheVariants.{Range}
-use Rattle.hs_temporal.specs.Days.{first_day, last_day, year_of, month_of, monthday_of}
+use Rattle.std.proofs.Common.{◌≡◌, codes, Ok, refl, sym, ap, ◌∙◌, arith, rules, pos, neg_ℤ}
+use Rattle.jiff_core.specs.Calendar.{days_from_civil, day_count, days_of_years, days_of_months}
+use Rattle.hs_temporal.specs.Days.{first_day, last_day}
 use Rattle.hs_temporal.specs.Moves.{months_later}
-use Rattle.hs_temporal.specs.Texts.{digits, fields, date_text, clock_text, fraction, filled}
+use Rattle.hs_temporal.specs.Texts.{digits, date_text, clock_text, fraction, filled}
 use Rattle.hs_temporal.proofs.DayLemmas.{civil_day}
 use Rattle.hs_temporal.proofs.StampLemmas.{date_text-civil}
 

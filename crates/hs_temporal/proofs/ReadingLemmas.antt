@@ -1,12 +1,12 @@
 -- Reading is the inverse of printing, both ways.
-use Rattle.std.proofs.Common.{◌≡◌, ◌≢◌, ℕ, zero, suc, ◌+◌, ◌-◌, ◌*◌, ◌<◌, ◌≤◌, Bool, true, false, List, length, nat_eq, Option, Some, None, MatchOption, Result, Ok, Err, refl, sym, ap, ◌∙◌, arith, rules, ℤ, pos, neg_ℤ, ◌+ℤ◌, ◌*ℤ◌, ◌<ℤ◌, ◌≤ℤ◌}
+use Rattle.std.proofs.Common.{◌≡◌, ◌≢◌, ℕ, zero, suc, ◌*◌, Bool, true, false, List, nat_eq, Option, Some, None, MatchOption, Ok, refl, sym, ap, ◌∙◌, arith, ℤ, pos, ◌+ℤ◌, ◌*ℤ◌, ◌<ℤ◌, ◌≤ℤ◌}
 use Rattle.std.specs.Prelude.{ok_or, if◌then◌else◌}
 use Rattle.std.specs.Cmp.Lexicographic.{pointwise, same_text, other_text}
 use Rattle.std.proofs.lemmas.Int.{by_lt_z}
 use Rattle.jiff_core.proofs.SignedLemmas.{signed_arith}
 use Rattle.hs_values.specs.declared.fault.EvalFault.{EvalFault}
 use Rattle.hs_values.specs.declared.fault.EvalFault.TheVariants.{BadDate}
-use Rattle.hs_temporal.specs.Days.{first_day, day_total, day_micros, IsDay, IsMicros, day_of}
+use Rattle.hs_temporal.specs.Days.{first_day, day_total, day_micros, IsDay, IsMicros}
 use Rattle.hs_temporal.specs.Texts.{date_text, stamp_text, filled}
 use Rattle.hs_temporal.specs.Reading.{first_from, date_in, stamp_in}
 use Rattle.hs_temporal.proofs.StampLemmas.{date_text-injective, stamp_text-injective, filled-stamp_text, sum-time_of}

@@ -1,5 +1,5 @@
 -- The texts of days and times name one day and one time.
-use Rattle.std.proofs.Common.{◌≡◌, ◌≢◌, ℕ, zero, suc, ◌+◌, ◌-◌, ◌*◌, ◌/◌, ◌%◌, ◌^◌, ◌<◌, ◌≤◌, List, [], ◌∷◌, ◌++◌, length, get_or, take, drop, codes, append_assoc, length-append, length-drop, drop-cons, Option, Some, None, MatchOption, refl, sym, ap, ◌∙◌, arith, rules, ℤ, pos, ◌+ℤ◌, ◌*ℤ◌}
+use Rattle.std.proofs.Common.{◌≡◌, ◌≢◌, ℕ, ◌+◌, ◌-◌, ◌*◌, ◌/◌, ◌%◌, ◌^◌, ◌<◌, ◌≤◌, List, [], ◌∷◌, ◌++◌, length, get_or, take, drop, codes, append_assoc, length-append, length-drop, drop-cons, Option, Some, None, MatchOption, refl, sym, ap, ◌∙◌, arith, ℤ, pos, ◌+ℤ◌, ◌*ℤ◌}
 use Rattle.std.proofs.Math.Seq.{take-add, take-append-add}
 use Rattle.std.proofs.lemmas.List.{length-take, take-append-drop, take_all, nil_from_length, append-nil}
 use Rattle.std.specs.Prelude.{slice_range, replicate}
@@ -12,7 +12,7 @@ use Rattle.hs_temporal.proofs.DayLemmas.{civil_parts, civil_day}
 use Rattle.std.specs.Str.{IsAscii}
 use Rattle.std.proofs.lemmas.Str.{IsAscii-append}
 use Rattle.hs_temporal.proofs.FractionLemmas.{fraction-full}
-use Rattle.hs_temporal.proofs.TextLemmas.{one_ascii, IsAscii-digits, IsAscii-fields, append_split, length-digits, digits-injective, length-fields, fields_are, AreFields, same_fields}
+use Rattle.hs_temporal.proofs.TextLemmas.{one_ascii, IsAscii-digits, IsAscii-fields, append_split, length-digits, digits-injective, length-fields, fields_are, same_fields}
 
 pub date_text-fields : (day : ℤ) → date_text day ≡ fields 4 (45 ∷ []) (year_of day) (month_of day) (monthday_of day)
 unfolding date_text

@@ -1,6 +1,6 @@
 -- Texts of fixed numbers of digits, and of the dates and times that they make.
-use Rattle.std.proofs.Common.{◌≡◌, ◌≢◌, ℕ, zero, suc, ◌+◌, ◌-◌, ◌*◌, ◌/◌, ◌%◌, ◌^◌, ◌<◌, ◌≤◌, List, [], ◌∷◌, ◌++◌, length, get_or, take, drop, codes, inl, inr, refl, sym, ap, ◌∙◌, arith, rules, length-append, length-drop, append_assoc, add-one, drop-cons}
-use Rattle.std.specs.Prelude.{slice_range, replicate}
+use Rattle.std.proofs.Common.{◌≡◌, ℕ, zero, suc, ◌+◌, ◌*◌, ◌/◌, ◌%◌, ◌^◌, ◌<◌, ◌≤◌, List, [], ◌∷◌, ◌++◌, length, get_or, take, drop, inl, inr, refl, sym, ap, ◌∙◌, arith, length-append, length-drop, append_assoc, drop-cons}
+use Rattle.std.specs.Prelude.{slice_range}
 use Rattle.std.proofs.Math.Seq.{get_or-append_seam}
 use Rattle.std.proofs.Math.ListN.{get_or-append}
 use Rattle.std.proofs.lemmas.Bool.{cases_lt}
@@ -9,7 +9,7 @@ use Rattle.std.proofs.lemmas.List.Folds.{drop_split}
 use Rattle.std.specs.Str.{IsAscii}
 use Rattle.std.proofs.lemmas.Str.{IsAscii-append}
 use Rattle.std.proofs.lemmas.Str.Ascii.{IsAscii-nil}
-use Rattle.hs_temporal.specs.Texts.{digits, fields, clock_text, time_text, fraction, filled}
+use Rattle.hs_temporal.specs.Texts.{digits, fields}
 
 pub length-digits : (places n : ℕ) → length (digits places n) ≡ places
 unfolding digits

@@ -1,4 +1,4 @@
-use Rattle.std.proofs.Common.{◌≡◌, FitsSigned, w32, w64, ℤ, pos, ◌≤ℤ◌, sym, subst, ◌∙◌, arith, rules}
+use Rattle.std.proofs.Common.{◌≡◌, FitsSigned, w32, w64, ◌∙◌, arith}
 use Rattle.std.proofs.lemmas.Int.{ints, to_z-of_z}
 use Rattle.jiff_core.specs.Date.{epoch_day}
 use Rattle.hs_temporal.proofs.DayLemmas.{parts_of}

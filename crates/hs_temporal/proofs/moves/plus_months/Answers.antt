@@ -1,9 +1,5 @@
-use Rattle.std.proofs.Common.{◌≡◌, FitsSigned, w16, w32, w64, ℤ, pos, neg_ℤ, ◌≤ℤ◌, ◌<ℤ◌, ◌+ℤ◌, inl, inr, Ok, sym, ap, ◌∙◌, arith, rules}
+use Rattle.std.proofs.Common.{FitsSigned, w32, w64, pos, ◌≤ℤ◌, ◌<ℤ◌, inl, inr, Ok, sym, ap, ◌∙◌, arith, rules}
 use Rattle.std.proofs.lemmas.Int.{ints, to_z-of_z}
-use Rattle.jiff_core.proofs.SignedLemmas.{signed_arith}
-use Rattle.jiff_span.specs.Months.{month_number}
-use Rattle.jiff_core.specs.Date.{epoch_day}
-use Rattle.hs_temporal.specs.Days.{IsDay}
 use Rattle.hs_temporal.proofs.DayLemmas.{epoch_day_is}
 use Rattle.hs_temporal.proofs.MoveLemmas.{later_date, early_date, far, IsDateOf}
 use Rattle.hs_temporal.proofs.moves.plus_months.Goals as goal

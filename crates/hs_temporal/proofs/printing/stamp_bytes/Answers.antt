@@ -1,6 +1,5 @@
-use Rattle.std.proofs.Common.{FitsSigned, w32, w64, ap, ◌∙◌, arith, rules}
+use Rattle.std.proofs.Common.{FitsSigned, w32, w64, ◌∙◌, arith, rules}
 use Rattle.std.proofs.lemmas.Int.{ints, to_z-of_z}
-use Rattle.jiff_core.proofs.SignedLemmas.{signed_arith}
 use Rattle.hs_temporal.proofs.StampLemmas.{stamp_text-parts}
 use Rattle.hs_temporal.proofs.printing.stamp_bytes.Goals as goal
 

@@ -1,4 +1,4 @@
-use Rattle.std.proofs.Common.{◌≡◌, ◌/◌, ◌%◌, ◌+◌, ◌++◌, ◌∷◌, [], ap, sym, ◌∙◌, arith}
+use Rattle.std.proofs.Common.{◌≡◌, ◌/◌, ◌%◌, sym, ◌∙◌, arith}
 use Rattle.hs_temporal.proofs.StampLemmas.{clock_text-fields, time_text-parts}
 use Rattle.hs_temporal.proofs.TextLemmas.{clock_bytes_are, part_bytes_are}
 use Rattle.hs_temporal.proofs.printing.time_bytes.Goals as goal

@@ -1,4 +1,4 @@
-use Rattle.std.proofs.Common.{sym, ap, ◌∙◌}
+use Rattle.std.proofs.Common.{sym, ◌∙◌}
 use Rattle.hs_temporal.proofs.StampLemmas.{date_text-fields, day_read}
 use Rattle.hs_temporal.specs.Days.{year_of, month_of, monthday_of}
 use Rattle.hs_temporal.proofs.reading.day_in.Goals as goal

@@ -1,6 +1,5 @@
-use Rattle.std.proofs.Common.{◌≡◌, ◌≢◌, ◌∷◌, [], ℕ, length, ◌+◌, take, sym, ap, subst, ◌∙◌, arith, rules}
+use Rattle.std.proofs.Common.{◌+◌, sym, ◌∙◌}
 use Rattle.std.proofs.lemmas.List.{take_rest}
-use Rattle.hs_temporal.specs.Texts.{fields, digits}
 use Rattle.hs_temporal.proofs.TextLemmas.{fields_are, as_long}
 use Rattle.hs_temporal.proofs.reading.fields_in.Goals as goal
 use Rattle.hs_temporal.proofs.reading.fields_in.Goals.{then-text-places-via-then-text-places, then-text-places-via-else-text-places+then-text-places-2, then-text-places-via-else-text-places+else-text-places-2+then-text-places-3}

@@ -1,7 +1,6 @@
-use Rattle.std.proofs.Common.{◌≡◌, ◌<◌, ◌≤◌, ◌-◌, ◌+◌, ◌*◌, ◌^◌, length, drop, take, sym, ap, subst, ◌∙◌, arith, rules}
+use Rattle.std.proofs.Common.{◌<◌, length, sym, ◌∙◌, arith}
 use Rattle.std.proofs.lemmas.Bool.{eqb-true}
 use Rattle.std.proofs.lemmas.List.{take_rest}
-use Rattle.hs_temporal.specs.Texts.{digits}
 use Rattle.hs_temporal.proofs.FractionLemmas.{no_fraction, fraction_value, fraction_only}
 use Rattle.hs_temporal.proofs.TextLemmas.{as_long}
 use Rattle.hs_temporal.proofs.reading.fraction_in.Goals as goal

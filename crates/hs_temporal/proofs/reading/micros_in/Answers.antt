@@ -1,4 +1,4 @@
-use Rattle.std.proofs.Common.{◌≡◌, ◌<◌, ◌≤◌, ◌/◌, ◌%◌, FitsSigned, w32, w64, sym, ap, ◌∙◌, arith, rules}
+use Rattle.std.proofs.Common.{◌/◌, ◌%◌, FitsSigned, w32, w64, sym, ap, ◌∙◌, arith, rules}
 use Rattle.std.proofs.lemmas.Int.{ints, to_z-of_z}
 use Rattle.std.proofs.lemmas.List.{take_rest}
 use Rattle.hs_temporal.specs.Days.{day_of, time_of}

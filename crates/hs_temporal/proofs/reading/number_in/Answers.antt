@@ -1,4 +1,4 @@
-use Rattle.std.proofs.Common.{◌≡◌, ◌<◌, ◌≤◌, ◌^◌, ◌+◌, ◌*◌, ◌++◌, ◌∷◌, [], length, get_or, take, subst, ap, arith, refl, sym, ◌∙◌, ℕ, suc, add-one}
+use Rattle.std.proofs.Common.{◌≡◌, ◌<◌, ◌+◌, length, get_or, arith, refl, sym, ◌∙◌, add-one}
 use Rattle.std.proofs.Math.Seq.{take-suc}
 use Rattle.hs_temporal.specs.Texts.{digits}
 use Rattle.hs_temporal.proofs.TextLemmas.{digits-suc, digit_at}

@@ -1,4 +1,4 @@
-use Rattle.std.proofs.Common.{◌/◌, ◌%◌, ◌<◌, sym, ◌∙◌, arith}
+use Rattle.std.proofs.Common.{◌/◌, ◌%◌, sym, ◌∙◌, arith}
 use Rattle.hs_temporal.proofs.StampLemmas.{clock_text-fields, clock_text-is, clock_text-only}
 use Rattle.hs_temporal.proofs.reading.seconds_in.Goals as goal
 use Rattle.hs_temporal.proofs.reading.seconds_in.Goals.{then-hour-gt23-via-then-hour-gt23, then-hour-gt23-via-else-hour-gt23+then-minute-gt59, then-hour-gt23-via-else-hour-gt23+else-minute-gt59+then-second-gt59}
