@@ -27,6 +27,7 @@ first_day_text = ap date_text (sym known_days.4) ∙ date_text-civil 1 1 1 (omeg
 
 -- 2024-01-31 and a month are 2024-02-29
 pub short_month : months_later (pos 19_753) (pos 1) ≡ Ok (pos 19_782)
+unfolding months_later
 short_month =
     let p = rw known_days.3 at (civil_day 2024 1 31 (omega arith) (search rules)) in
     rw (p.1, p.2, p.3) (ap Ok known_days.2)

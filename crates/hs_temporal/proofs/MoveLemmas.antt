@@ -1,12 +1,12 @@
 -- What adding months gives, from the year that is reached.
 use Rattle.std.proofs.Common.{◌≡◌, ℕ, ◌+◌, ◌⊎◌, inl, inr, Ok, Err, sym, ap, ◌∙◌, arith, min, unsigned_abs, ℤ, pos, neg_ℤ, ◌+ℤ◌, ◌<ℤ◌, ◌≤ℤ◌}
 use Rattle.std.specs.Int.{int_div_euclid, int_rem_euclid}
-use Rattle.std.proofs.lemmas.Int.{ints}
+use Rattle.std.proofs.lemmas.Int.{ints, by_lt_z}
 use Rattle.jiff_core.specs.declared.civil.date.Date.{Date}
 use Rattle.jiff_core.specs.Calendar.{days_from_civil, days_in_month}
 use Rattle.jiff_core.specs.Date.{epoch_day}
 use Rattle.jiff_core.proofs.SignedLemmas.{signed_arith}
-use Rattle.jiff_span.specs.Months.{month_number, shifted_year, add_months}
+use Rattle.jiff_span.specs.Months.{month_number, shifted_year, add_months, IsShiftable}
 use Rattle.jiff_span.proofs.MonthLemmas.{shift_parts}
 use Rattle.hs_values.specs.declared.fault.EvalFault.TheVariants.{Range}
 use Rattle.hs_temporal.specs.Days.{IsDay, year_of, month_of, monthday_of}
@@ -14,12 +14,15 @@ use Rattle.hs_temporal.specs.Moves.{months_before, later_year, later_month, late
 use Rattle.hs_temporal.proofs.DayLemmas.{civil_parts}
 
 within : (day n : ℤ) → pos 1 ≤ℤ later_year day n → later_year day n ≤ℤ pos 9999 → months_later day n ≡ Ok (days_from_civil (later_year day n) (later_month day n) (later_monthday day n))
+unfolding months_later
 within day n low high = grind (arith, ints)
 
 pub below : (day n : ℤ) → later_year day n <ℤ pos 1 → months_later day n ≡ Err Range
+unfolding months_later
 below day n low = grind (arith, ints)
 
 pub above : (day n : ℤ) → pos 9999 <ℤ later_year day n → months_later day n ≡ Err Range
+unfolding months_later
 above day n high = grind (arith, ints)
 
 -- so many months reach beyond the years 1 to 9999 from any day of them
@@ -64,3 +67,13 @@ pub early_date : (d later : Date) (day n : ℤ) → IsDateOf d day → month_num
 early_date d later day n h e low =
     let year = reached d later day n h e in
     sym (below day n (omega (arith, signed_arith, year)))
+
+-- and where the library has none, the sum leaves the years
+pub no_date : (d : Date) (day n : ℤ) → IsDateOf d day → ¬ (IsShiftable d n) → Err Range ≡ months_later day n
+no_date d day n h none =
+    let year = (same_sum d day n h).0 in
+    by_lt_z (later_year day n) (pos 1)
+    (λ low. sym (below day n low))
+    (λ least. by_lt_z (pos 9999) (later_year day n)
+    (λ high. sym (above day n high))
+    (λ most. absurd (none (omega (arith, signed_arith, year), omega (arith, signed_arith, year)))))

@@ -7,7 +7,7 @@ use Rattle.hs_values.specs.declared.fault.EvalFault.TheVariants.{Range}
 use Rattle.hs_temporal.specs.Days.{first_day, last_day, year_of, month_of, monthday_of}
 
 -- the day n days later, in the years 1 to 9999
-abbrev pub days_later : ℤ → ℤ → Result ℤ EvalFault
+unfoldable pub days_later : ℤ → ℤ → Result ℤ EvalFault
 days_later day n =
     let later = day +ℤ n in
     if int_le first_day later && int_le later last_day then Ok later else Err Range
@@ -29,7 +29,7 @@ abbrev pub later_monthday : ℤ → ℤ → ℕ
 later_monthday day n = min (monthday_of day) (days_in_month (later_year day n) (later_month day n))
 
 -- the day n months later, in the years 1 to 9999
-abbrev pub months_later : ℤ → ℤ → Result ℤ EvalFault
+unfoldable pub months_later : ℤ → ℤ → Result ℤ EvalFault
 months_later day n =
     if int_le (pos 1) (later_year day n) && int_le (later_year day n) (pos 9999)
     then Ok (days_from_civil (later_year day n) (later_month day n) (later_monthday day n))

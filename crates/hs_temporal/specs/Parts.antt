@@ -5,7 +5,7 @@ use Rattle.hs_temporal.specs.declared.parts.Part.TheVariants as part
 use Rattle.hs_temporal.specs.Days.{year_of, month_of, monthday_of, day_of, time_of}
 
 -- the whole part, of a time in microseconds
-abbrev pub part_of : Part → ℤ → ℤ
+unfoldable pub part_of : Part → ℤ → ℤ
 part_of part.Year micros = pos (year_of (day_of micros))
 part_of part.Month micros = pos (month_of (day_of micros))
 part_of part.Day micros = pos (monthday_of (day_of micros))

@@ -18,6 +18,7 @@ const LAST_DAY: i64 = 2_932_896;
 /// 1970-01-01, which is 0, in the Gregorian calendar that ISO 8601 extends to all years. The fault
 /// is `Range`, where the sum leaves the years 1 to 9999, for which SQL has dates. It takes no
 /// memory.
+#[tactic(auto, unfolding(crate::specs::Moves::days_later))]
 pub fn plus_days(day: i32, n: i64) -> Result<i32, EvalFault>
     requires { IsDay day }
     ensures value { result ≡ days_later day n }

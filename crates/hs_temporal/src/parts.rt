@@ -23,6 +23,7 @@ pub enum Part {
 /// the beginning of 1970-01-01. The year is 1 to 9999, the month 1 to 12, the day 1 to 31, the hour
 /// 0 to 23, and minute and second 0 to 59. What is below the part is left out, so that the second
 /// is the whole second that has begun, also before 1970. It takes no memory.
+#[tactic(auto, unfolding(crate::specs::Parts::part_of))]
 pub fn extract(part: Part, micros: i64) -> i64
     requires { IsMicros micros }
     ensures { result ≡ part_of part micros }

@@ -1,7 +1,7 @@
-use Rattle.std.proofs.Common.{FitsSigned, w32, w64, pos, ◌≤ℤ◌, ◌<ℤ◌, inl, inr, Ok, sym, ap, ◌∙◌, arith, rules}
+use Rattle.std.proofs.Common.{FitsSigned, w32, w64, pos, ◌≤ℤ◌, ◌<ℤ◌, inl, inr, Ok, true≢false, sym, ap, ◌∙◌, arith, rules}
 use Rattle.std.proofs.lemmas.Int.{ints, to_z-of_z}
 use Rattle.hs_temporal.proofs.DayLemmas.{epoch_day_is}
-use Rattle.hs_temporal.proofs.MoveLemmas.{later_date, early_date, far, IsDateOf}
+use Rattle.hs_temporal.proofs.MoveLemmas.{no_date, later_date, early_date, far, IsDateOf}
 use Rattle.hs_temporal.proofs.moves.plus_months.Goals as goal
 use Rattle.hs_temporal.proofs.moves.plus_months.Goals.{then-n-via-then-n, then-n-via-else-n+then-n-gt-MOST_MONTHS}
 
@@ -39,3 +39,12 @@ returns-in_default-clause-value c =
     let is : IsDateOf c.date_of.result c.args.day = record { years = simp to_z-of_z at c.date_of.ensures.year; months = simp to_z-of_z at c.date_of.ensures.month; days = simp to_z-of_z at c.date_of.ensures.day } in
     let month = simp to_z-of_z at c.in-Ok.ensures.month in
     early_date c.date_of.result c.in-Ok.later c.args.day c.args.n is month low
+
+pub returns-in_default-2-clause-value : goal.returns-in_default-2-clause-value
+returns-in_default-2-clause-value c =
+    let fits_day : FitsSigned w32 c.args.day = c.ranges.day in
+    let fits_wide : FitsSigned w64 c.args.n = c.ranges.n in
+    let fits_n : FitsSigned w32 c.args.n = omega (arith, ints) in
+    let is : IsDateOf c.date_of.result c.args.day = record { years = simp to_z-of_z at c.date_of.ensures.year; months = simp to_z-of_z at c.date_of.ensures.month; days = simp to_z-of_z at c.date_of.ensures.day } in
+    let told = simp to_z-of_z at c.in_default.ensures.succeeds in
+    no_date c.date_of.result c.args.day c.args.n is (λ shiftable. true≢false (sym (told.1 shiftable)))
