@@ -1,5 +1,5 @@
 -- A statement makes at most one commit.
-use Rattle.std.proofs.Common.{◌≡◌, ℕ, ◌+◌, ◌≤◌, Bool, true, false, cond, List, [], ◌∷◌, ◌++◌, Option, Some, None, arith, nat_le, length}
+use Rattle.std.proofs.Common.{ℕ, ◌+◌, ◌≤◌, Bool, true, false, cond, List, [], ◌∷◌, ◌++◌, Option, Some, None, arith, nat_le, length}
 use Rattle.std.specs.Prelude.{◌==◌}
 use Rattle.hs_values.specs.declared.value.Value.{Value}
 use Rattle.hs_top.specs.declared.database.Database.{Database}

@@ -1,11 +1,11 @@
 -- Digits and the number that they write.
-use Rattle.std.proofs.Common.{◌≡◌, ℕ, zero, suc, drop, add-one, slice_index, ◌+◌, ◌-◌, ◌*◌, ◌≤◌, ◌<◌, Bool, true, List, [], ◌∷◌, length, take, arith, refl, sym, subst, ap, ◌∙◌, nat_lt}
+use Rattle.std.proofs.Common.{◌≡◌, ℕ, suc, add-one, ◌+◌, ◌-◌, ◌*◌, ◌≤◌, true, List, [], ◌∷◌, length, take, arith, sym, subst, ap, ◌∙◌}
 use Rattle.std.specs.Str.{IsAscii}
 use Rattle.std.proofs.lemmas.Str.Ascii.{IsAscii-cons, IsAscii-from_all}
 use Rattle.std.specs.Str.Parse.{digits_value_after}
 use Rattle.std.specs.Char.{digit_value}
 use Rattle.std.specs.List.{AllPass}
-use Rattle.hs_top.specs.Statement.{is_digit, is_capital}
+use Rattle.hs_top.specs.Statement.{is_digit}
 
 -- more digits don't make a number smaller
 pub value_grows : (n : ℕ) (digits : List ℕ) → n ≤ digits_value_after 10 n digits

@@ -1,5 +1,5 @@
 -- The part of the input that is within the limit.
-use Rattle.std.proofs.Common.{◌≡◌, ℕ, ◌+◌, List, ◌∷◌, take, refl, sym, subst, ap, ◌∙◌, arith, add-one}
+use Rattle.std.proofs.Common.{◌≡◌, ℕ, ◌+◌, List, ◌∷◌, take, refl, ap, ◌∙◌, add-one}
 
 -- a byte that is taken is the first of those that may be used
 pub take_next : (input rest : List ℕ) (b n k : ℕ) → input ≡ b ∷ rest → n ≡ k + 1 → take n input ≡ b ∷ take k rest

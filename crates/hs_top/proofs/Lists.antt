@@ -1,5 +1,5 @@
 -- How a list in a text is read on.
-use Rattle.std.proofs.Common.{◌≡◌, ℕ, zero, suc, ◌+◌, ◌-◌, ◌<◌, List, ◌∷◌, [], ◌++◌, Option, None, Some, if◌then◌else◌, refl, arith, ap, subst, sub-one}
+use Rattle.std.proofs.Common.{◌≡◌, ℕ, zero, suc, ◌-◌, ◌<◌, List, ◌∷◌, [], ◌++◌, Option, None, Some, if◌then◌else◌, refl, arith, ap}
 use Rattle.hs_top.specs.Statement.{◌>>=◌, after, is_end, list_from}
 
 -- where one more may come

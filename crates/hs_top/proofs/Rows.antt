@@ -1,5 +1,5 @@
 -- The lines of rows, one after another.
-use Rattle.std.proofs.Common.{◌≡◌, ℕ, ◌+◌, ◌<◌, List, [], ◌∷◌, ◌++◌, length, drop, map, get_or, refl, sym, ap, ◌∙◌, arith, add-one, drop-cons, codes}
+use Rattle.std.proofs.Common.{◌≡◌, ℕ, ◌+◌, ◌<◌, List, ◌∷◌, ◌++◌, length, drop, map, get_or, refl, ap, ◌∙◌, add-one, drop-cons, codes}
 use Rattle.hs_values.specs.declared.value.Value.{Value}
 use Rattle.hs_top.specs.Lines.{line, row_text, rows_lines}
 

@@ -1,5 +1,5 @@
 -- What a turn writes, put together from its parts.
-use Rattle.std.proofs.Common.{◌≡◌, ℕ, ◌≤◌, List, [], ◌++◌, length, refl, sym, ◌∙◌, ap, arith, append_assoc}
+use Rattle.std.proofs.Common.{◌≡◌, ℕ, ◌≤◌, List, ◌++◌, length, sym, ◌∙◌, ap, append_assoc}
 use Rattle.hs_top.specs.Machine.{WritesFront}
 use Rattle.hs_top.proofs.Fronts.{front_on}
 

@@ -1,5 +1,5 @@
 -- The machine that a program at work stands for.
-use Rattle.std.specs.Prelude.{◌≡◌, ℕ, ◌+◌, ◌^◌, ◌<◌, ◌≤◌, List, ◌++◌, take, length}
+use Rattle.std.specs.Prelude.{ℕ, ◌+◌, ◌^◌, ◌<◌, ◌≤◌, List, ◌++◌, take, length}
 use Rattle.hs_top.specs.declared.running.Running.{Running}
 use Rattle.hs_top.specs.Items.{items, whole_items}
 use Rattle.hs_top.specs.Reader.{ahead, room, IsSound}

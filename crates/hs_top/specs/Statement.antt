@@ -1,7 +1,6 @@
 -- The statements of the program, and the one spelling of each.
-use Rattle.std.specs.Prelude.{◌≡◌, ℕ, zero, suc, ◌+◌, ◌-◌, ◌^◌, ◌<◌, ◌≤◌, Bool, true, false, ◌==◌, ◌&&◌, not, nat_lt, nat_le, nat_eq, ℤ, pos, neg_ℤ, List, [], ◌∷◌, ◌++◌, length, take, drop, Option, None, Some, if◌then◌else◌, codes}
+use Rattle.std.specs.Prelude.{ℕ, zero, suc, ◌+◌, ◌^◌, Bool, true, false, ◌==◌, ◌&&◌, not, nat_lt, nat_le, nat_eq, ℤ, pos, neg_ℤ, List, [], ◌∷◌, ◌++◌, length, take, drop, Option, None, Some, if◌then◌else◌, codes}
 use Rattle.std.specs.List.{starts_with, prefix_len}
-use Rattle.std.specs.Option.{option_map}
 use Rattle.std.specs.Str.Parse.{digits_value}
 use Rattle.hs_values.specs.declared.value.Value.{Value}
 use Rattle.hs_values.specs.declared.value.Value.TheVariants.{Int}
@@ -76,20 +75,20 @@ unfoldable pub list_from : {A : Type 0} → (List ℕ → Option (A × List ℕ)
 list_from one between so_far zero bytes = None
 list_from one between so_far (suc k) bytes =
     one bytes >>= λ p.
-      if is_end p.1 then Some (so_far ++ p.0 ∷ [])
-      else after between p.1 >>= λ more. list_from one between (so_far ++ p.0 ∷ []) k more
+    if is_end p.1 then Some (so_far ++ p.0 ∷ [])
+    else after between p.1 >>= λ more. list_from one between (so_far ++ p.0 ∷ []) k more
 
 -- `CREATE TABLE T (N BIGINT, M BIGINT);` behind its first words
 abbrev pub create_of : List ℕ → Option Statement
 create_of bytes =
     name_of bytes >>= λ table. after (codes " (") table.1 >>= λ rest.
-      list_from column_of (codes ", ") [] MOST_COLUMNS rest >>= λ columns. Some (Create table.0 columns)
+    list_from column_of (codes ", ") [] MOST_COLUMNS rest >>= λ columns. Some (Create table.0 columns)
 
 -- `INSERT INTO T VALUES (1,-7);` behind its first words
 abbrev pub insert_of : List ℕ → Option Statement
 insert_of bytes =
     name_of bytes >>= λ table. after (codes " VALUES (") table.1 >>= λ rest.
-      list_from value_of (codes ",") [] (length rest) rest >>= λ row. Some (Insert table.0 row)
+    list_from value_of (codes ",") [] (length rest) rest >>= λ row. Some (Insert table.0 row)
 
 -- `SELECT * FROM T;` behind its first words
 abbrev pub select_of : List ℕ → Option Statement
@@ -98,10 +97,12 @@ select_of bytes = name_of bytes >>= λ table. if starts_with nat_eq table.1 (cod
 -- the statement that an entry of session `a` spells
 abbrev pub statement_of : List ℕ → Option Statement
 statement_of bytes = elim (after (codes "a: CREATE TABLE ") bytes) [
-    Some rest ↦ create_of rest
+  | Some rest ↦ create_of rest
   | None ↦ elim (after (codes "a: INSERT INTO ") bytes) [
-      Some rest ↦ insert_of rest
-    | None ↦ after (codes "a: SELECT * FROM ") bytes >>= λ rest. select_of rest ] ]
+    | Some rest ↦ insert_of rest
+    | None ↦ after (codes "a: SELECT * FROM ") bytes >>= λ rest. select_of rest
+  ]
+]
 
 abbrev pub read_of : Item → Option Statement
 read_of (Text bytes) = statement_of bytes

@@ -115,7 +115,12 @@ impl Output {
         }
     }
 
-    fn push_done(&mut self, number: u64, count: Option<u64>, committed: Option<u64>) -> Result<(), AllocError>
+    fn push_done(
+        &mut self,
+        number: u64,
+        count: Option<u64>,
+        committed: Option<u64>,
+    ) -> Result<(), AllocError>
         ensures { OnOk result (self.new ≡ self.old ++ line number (codes "a") (codes "ok" ++ text_or_nothing count_text count ++ text_or_nothing commit_text committed)) }
     {
         write!(self.text, "{number} a: ok")?;

@@ -3,8 +3,8 @@ ghost use Rattle.std.specs.Prelude.{◌≡◌, true, false, ℕ, ◌+◌, ◌-�
 ghost use Rattle.hs_host.specs.Host.{Rose};
 ghost use Rattle.hs_top.specs.Items.{whole_items};
 
-use crate::item::Item;
 use crate::input_fault::InputFault;
+use crate::item::Item;
 use hs_host::{HostFault, Source};
 use std::alloc::{AllocError, Global};
 

@@ -54,7 +54,14 @@ impl Running {
             return Ok(false);
         };
         self.number += 1;
-        answer(self.alloc, self.number, &item, &mut self.database, &mut self.output, host)?;
+        answer(
+            self.alloc,
+            self.number,
+            &item,
+            &mut self.database,
+            &mut self.output,
+            host,
+        )?;
         Ok(true)
     }
 }

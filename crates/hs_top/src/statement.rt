@@ -145,7 +145,8 @@ fn read_columns(alloc: Global, text: &[u8]) -> Result<Option<Names>, AllocError>
 fn read_row(alloc: Global, text: &[u8]) -> Result<Option<Row>, AllocError>
     ensures { IfOk result (λ r. r ≡ list_from value_of (codes ",") [] (length text.now) text.now) }
 {
-    let mut row = Row::new(alloc);
+    let commas = text.iter().filter(|b| **b == b',').count();
+    let mut row = Vec::with_capacity(alloc, commas + 1)?;
     let mut rest = text;
     let mut left = text.len();
     while left > 0 {
@@ -154,7 +155,7 @@ fn read_row(alloc: Global, text: &[u8]) -> Result<Option<Row>, AllocError>
         };
         row.push(value)?;
         if is_end(behind) {
-            return Ok(Some(row));
+            return Ok(Some(Row::from_vec(row)));
         }
         let Some(more) = after(behind, b",") else {
             return Ok(None);
@@ -192,7 +193,11 @@ fn split_name(text: &[u8]) -> Option<(&[u8], &[u8])>
     ensures ascii { IfSome result (λ p. IsAscii p.0.now) }
 {
     let len = name_len(text);
-    if len == 0 { None } else { Some(text.split_at(len)) }
+    if len == 0 {
+        None
+    } else {
+        Some(text.split_at(len))
+    }
 }
 
 fn name_len(text: &[u8]) -> usize

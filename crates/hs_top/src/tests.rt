@@ -1,8 +1,9 @@
 // What no clause says: that the definitions are those of the program's users, and that a run succeeds.
+use crate::input_fault::InputFault;
 use crate::item::Item;
 use crate::reader::Reader;
+use crate::run;
 use crate::status::Status;
-use crate::{input_fault::InputFault, run};
 use hs_host::{Host, HostFault, Source};
 use hs_memhost::{CallList, MemHost, NeverFails};
 use hs_values::{Bytes, Chars, Words};
@@ -186,7 +187,11 @@ fn failing_calls(rt: HostRuntime) -> Result<(), Fail> {
     assert_eq!(rt; whole.calls(), 5);
     for call in 0..5 {
         let mut host = host(alloc, input, &[call])?;
-        let wanted = if call % 2 == 0 { Status::OutputFault } else { Status::InputFault };
+        let wanted = if call % 2 == 0 {
+            Status::OutputFault
+        } else {
+            Status::InputFault
+        };
         assert_eq!(rt; run(alloc, &words, &mut host), wanted, "at call {call}");
         assert!(rt; whole.output().starts_with(host.output()), "at call {call}");
     }
@@ -220,7 +225,11 @@ fn command_lines(rt: HostRuntime) -> Result<(), Fail> {
 #[test]
 fn the_limit(rt: HostRuntime) -> Result<(), Fail> {
     let alloc = rt.alloc();
-    for (input, then) in [("abcdefg;", true), ("abcdefg;x", false), ("abcdefg; ", false)] {
+    for (input, then) in [
+        ("abcdefg;", true),
+        ("abcdefg;x", false),
+        ("abcdefg; ", false),
+    ] {
         let mut host = host(alloc, input.as_bytes(), &[])?;
         let mut reader = Reader::new(alloc, 8)?;
         let first = reader.next(&mut host);

@@ -7,11 +7,9 @@ use crate::streams::Streams;
 use hs_top::{Status, run};
 use hs_values::{Chars, Words};
 use std::alloc::Global;
-use std::env;
-use std::io;
 use std::process::ExitCode;
 use std::rt::Env;
-
+use std::{env, io};
 
 // The words of the command line, the program's own name first.
 fn words<R: Env + Alloc>(rt: &R, alloc: Global) -> io::Result<Words> {

@@ -1,4 +1,4 @@
-use Rattle.std.proofs.Common.{◌≡◌, ◌++◌, ◌+◌, List, ℕ, drop, map, codes, sym, ap, ◌∙◌, arith}
+use Rattle.std.proofs.Common.{◌≡◌, ◌++◌, ◌+◌, List, drop, map, codes, ap, ◌∙◌, arith}
 use Rattle.hs_values.specs.declared.value.Value.{Value}
 use Rattle.hs_top.specs.Lines.{line, row_text, rows_lines}
 use Rattle.hs_top.proofs.Fronts.{front_on, gathered, handed}
@@ -9,7 +9,7 @@ use Rattle.hs_top.proofs.answer.push_rows.Goals.{After-hand_over_much}
 -- with this row's line gathered
 left : (g : _) (c : After-hand_over_much g) → g.H.Source.tells
     → g.H.Host.written c.loop-row.host ++ (c.push_row.new.self ++ rows_lines c.args.number (codes "a") (map (λ r. r.now) (drop (c.loop-row.row-index + 1) c.args.rows.now)))
-      ≡ g.H.Host.written c.args.host.now ++ (c.args.output.now ++ rows_lines c.args.number (codes "a") (map (λ r. r.now) c.args.rows.now))
+    ≡ g.H.Host.written c.args.host.now ++ (c.args.output.now ++ rows_lines c.args.number (codes "a") (map (λ r. r.now) c.args.rows.now))
 left g c told = gathered (g.H.Host.written c.loop-row.host) c.loop-row.output c.push_row.new.self _ _ _ _ (c.loop-row.invariant.so_far told) (c.in_ok-push_row.ensures ∙ ap (λ (r : List Value). c.loop-row.output ++ line c.args.number (codes "a") (codes "row " ++ row_text r)) c.as_slice.ensures)
     (rows_next (λ r. r.now) c.args.rows.now c.loop-row.row-index c.row-item.result c.args.number (codes "a") c.loop-row-test.true c.row-item.is)
 

@@ -1,4 +1,4 @@
-use Rattle.std.proofs.Common.{◌≡◌, ℕ, ◌≤◌, List, ◌++◌, length, map, drop, codes}
+use Rattle.std.proofs.Common.{◌≡◌, ◌≤◌, ◌++◌, length, map, drop, codes}
 use Rattle.hs_top.specs.Lines.{rows_lines}
 use Rattle.hs_top.proofs.answer.push_rows.Given as goal
 

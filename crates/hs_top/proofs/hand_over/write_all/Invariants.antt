@@ -1,4 +1,4 @@
-use Rattle.std.proofs.Common.{◌≡◌, ℕ, ◌≤◌, List, ◌++◌, length}
+use Rattle.std.proofs.Common.{◌≡◌, ◌≤◌, ◌++◌, length}
 use Rattle.hs_top.proofs.hand_over.write_all.Given as goal
 
 abbrev pub invariant-loop-rest : goal.invariant-loop-rest

@@ -1,5 +1,4 @@
-use Rattle.std.proofs.Common.{rules, arith, ◌≡◌, sym, ◌∙◌, ap}
-use Rattle.std.specs.Str.Parse.{digits_value_after}
+use Rattle.std.proofs.Common.{arith}
 use Rattle.hs_top.proofs.Digits.{digit_taken, digits_left, all_taken}
 use Rattle.hs_top.proofs.integer.natural.Goals as goal
 

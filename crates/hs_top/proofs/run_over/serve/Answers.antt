@@ -1,12 +1,11 @@
-use Rattle.std.proofs.Common.{◌≡◌, ◌++◌, ◌+◌, ◌-◌, ◌^◌, ◌≤◌, List, [], ℕ, take, length, sym, ap, ◌∙◌, arith}
+use Rattle.std.proofs.Common.{◌≡◌, ◌++◌, ◌^◌, List, ℕ, take, length, ap, ◌∙◌, arith}
 use Rattle.hs_top.specs.declared.database.Database.{Database}
 use Rattle.hs_top.specs.Items.{items, whole_items}
 use Rattle.hs_top.specs.Reader.{ahead, room}
-use Rattle.hs_top.specs.Database.{new_database}
-use Rattle.hs_top.specs.Lines.{opened_line, closed_line}
+use Rattle.hs_top.specs.Lines.{opened_line}
 use Rattle.hs_top.specs.Machine.{WritesFront, machine, transcript, rest_of, lines_of}
-use Rattle.hs_top.specs.Running.{input_of, machine_of}
-use Rattle.hs_top.proofs.Fronts.{nothing_yet, front_after, front_on}
+use Rattle.hs_top.specs.Running.{machine_of}
+use Rattle.hs_top.proofs.Fronts.{nothing_yet, front_after}
 use Rattle.hs_top.proofs.Runs.{rest_of-over}
 use Rattle.hs_top.proofs.Turns.{ended}
 use Rattle.hs_top.proofs.run_over.serve.Goals as goal
@@ -38,11 +37,11 @@ loop-running-init g c =
         limit = omega (arith, c.in_ok-new.ensures.limit);
       };
       so_far = λ told.
-        ap (λ (o : List ℕ). written ++ (o ++ rest_of (machine (items (ahead c.in_ok-new.field-0 ++ g.H.Source.unread c.args.host.now)) 0 c.new-2.result))) (first_line g at)
+          ap (λ (o : List ℕ). written ++ (o ++ rest_of (machine (items (ahead c.in_ok-new.field-0 ++ g.H.Source.unread c.args.host.now)) 0 c.new-2.result))) (first_line g at)
           ∙ ap (λ (u : List ℕ). written ++ (opened_line 0 ++ rest_of (machine (items u) 0 c.new-2.result))) (all_input g at)
           ∙ ap (λ (d : Database). written ++ (opened_line 0 ++ rest_of (machine (items (g.H.Source.unread c.args.host.now)) 0 d))) c.new-2.ensures;
       within = λ told more.
-        ap (λ (o : List ℕ). written ++ (o ++ lines_of (machine (whole_items (take (room c.in_ok-new.field-0) (ahead c.in_ok-new.field-0 ++ g.H.Source.unread c.args.host.now))) 0 c.new-2.result))) (first_line g at)
+          ap (λ (o : List ℕ). written ++ (o ++ lines_of (machine (whole_items (take (room c.in_ok-new.field-0) (ahead c.in_ok-new.field-0 ++ g.H.Source.unread c.args.host.now))) 0 c.new-2.result))) (first_line g at)
           ∙ ap (λ (u : List ℕ). written ++ (opened_line 0 ++ lines_of (machine (whole_items (take (room c.in_ok-new.field-0) u)) 0 c.new-2.result))) (all_input g at)
           ∙ ap (λ (n : ℕ). written ++ (opened_line 0 ++ lines_of (machine (whole_items (take n (g.H.Source.unread c.args.host.now))) 0 c.new-2.result))) all_room
           ∙ ap (λ (d : Database). written ++ (opened_line 0 ++ lines_of (machine (whole_items (take (2 ^ 30) (g.H.Source.unread c.args.host.now))) 0 d))) c.new-2.ensures;
@@ -57,14 +56,14 @@ loop-running-init g c =
 whole : (g : _) (c : After-hand_over g) → g.H.Source.tells → g.H.Host.written c.turn.new.host ++ c.push_closed.new.self ≡ g.H.Host.written c.args.host.now ++ transcript (g.H.Source.unread c.args.host.now)
 whole g c told =
     ended (g.H.Host.written c.turn.new.host) c.turn.new.self.output c.push_closed.new.self (rest_of (machine_of c.turn.new.self (g.H.Source.unread c.turn.new.host))) _ _
-      (c.in_ok-turn.ensures.done told ∙ c.loop-running.invariant.so_far told)
-      (rest_of-over _ c.turn.new.self.number c.turn.new.self.database (ap items (c.in_ok-turn.ensures.over told c.if-branch.false)))
-      c.in_ok-push_closed.ensures
+    (c.in_ok-turn.ensures.done told ∙ c.loop-running.invariant.so_far told)
+    (rest_of-over _ c.turn.new.self.number c.turn.new.self.database (ap items (c.in_ok-turn.ensures.over told c.if-branch.false)))
+    c.in_ok-push_closed.ensures
 
 front_of_whole : (g : _) (c : After-hand_over g) → g.H.Source.tells → WritesFront (g.H.Host.written c.args.host.now) (g.H.Host.written c.hand_over.new.host) (transcript (g.H.Source.unread c.args.host.now))
 front_of_whole g c told =
     front_after (g.H.Host.written c.args.host.now) (g.H.Host.written c.turn.new.host) _ c.push_closed.new.self _ (whole g c told)
-      (omega (arith, c.loop-running.invariant.grown told, (c.turn.ensures.front told).grown)) (c.hand_over.ensures.front told)
+    (omega (arith, c.loop-running.invariant.grown told, (c.turn.ensures.front told).grown)) (c.hand_over.ensures.front told)
 
 pub returns-in_err-hand_over-clause-front : goal.returns-in_err-hand_over-clause-front
 returns-in_err-hand_over-clause-front g c = front_of_whole g (goal.at.returns-in_err-hand_over-clause-front g c).After-hand_over

@@ -1,5 +1,4 @@
-use Rattle.std.proofs.Common.{◌≡◌, ℕ, ◌+◌, ◌-◌, ◌^◌, ◌<◌, ◌≤◌, List, ◌++◌, length}
-use Rattle.hs_top.specs.Lines.{closed_line}
+use Rattle.std.proofs.Common.{◌≡◌, ◌+◌, ◌-◌, ◌^◌, ◌≤◌, ◌++◌, length}
 use Rattle.hs_top.specs.Machine.{transcript, transcript_within, rest_of, lines_of}
 use Rattle.hs_top.specs.Running.{input_of, machine_of, machine_within, IsTooLong, IsSane}
 use Rattle.hs_top.proofs.run_over.serve.Given as goal

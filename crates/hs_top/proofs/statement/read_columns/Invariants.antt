@@ -1,4 +1,4 @@
-use Rattle.std.proofs.Common.{◌≡◌, [], length, codes}
+use Rattle.std.proofs.Common.{◌≡◌, [], codes}
 use Rattle.hs_top.specs.declared.statement.TheConstants.{MOST_COLUMNS}
 use Rattle.hs_top.specs.Statement.{column_of, list_from}
 use Rattle.hs_top.proofs.statement.read_columns.Given as goal

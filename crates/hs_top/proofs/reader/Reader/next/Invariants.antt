@@ -1,4 +1,4 @@
-use Rattle.std.proofs.Common.{◌≡◌, ℕ, ◌+◌, ◌-◌, ◌≤◌, ◌<◌, false, List, [], ◌∷◌, ◌++◌, length, take}
+use Rattle.std.proofs.Common.{◌≡◌, ◌+◌, ◌-◌, ◌≤◌, ◌<◌, false, [], ◌++◌, length, take}
 use Rattle.hs_top.specs.Items.{items_from, whole_from, is_nothing}
 use Rattle.hs_top.specs.declared.item.Item.TheVariants.{Text}
 use Rattle.hs_top.specs.Reader.{ahead, room, IsSound}

@@ -1,4 +1,4 @@
-use Rattle.std.proofs.Common.{◌≡◌, ◌∷◌, ◌++◌, List, ℕ, sym, ◌∙◌, ap, arith}
+use Rattle.std.proofs.Common.{◌++◌, List, ℕ, sym, ◌∙◌, ap, arith}
 use Rattle.hs_top.specs.Reader.{ahead, room}
 use Rattle.hs_top.proofs.Limits.{take_next}
 use Rattle.hs_top.proofs.reader.Reader.next_byte.Goals as goal

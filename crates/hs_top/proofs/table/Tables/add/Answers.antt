@@ -1,4 +1,4 @@
-use Rattle.std.proofs.Common.{◌≡◌, ◌++◌, ◌∷◌, [], None, List, ℕ, sym, ap, ◌∙◌, string_bytes}
+use Rattle.std.proofs.Common.{◌≡◌, ◌++◌, ◌∷◌, [], None, List, ℕ, ap, ◌∙◌, string_bytes}
 use Rattle.hs_top.specs.Database.{table_of}
 use Rattle.hs_top.specs.Entries.{entries_of, Entries}
 use Rattle.hs_top.proofs.Entries.{added}

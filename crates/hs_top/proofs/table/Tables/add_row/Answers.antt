@@ -1,4 +1,4 @@
-use Rattle.std.proofs.Common.{◌≡◌, List, String, Global, ap, ◌∙◌, sym, string_bytes}
+use Rattle.std.proofs.Common.{List, String, Global, ap, ◌∙◌, sym, string_bytes}
 use Rattle.std.specs.Map.{set_value}
 use Rattle.std.specs.Str.{bytes_eq}
 use Rattle.hs_values.specs.declared.value.Value.{Value}
@@ -11,15 +11,15 @@ pub returns-clause-ok : goal.returns-clause-ok
 returns-clause-ok c =
     let t = c.in-Some.table.now in
     ap entries_of (c.get_mut.follows.holds (record { columns = t.columns; rows = c.push.new.self })).0
-      ∙ written c.self.inside.tables.entries c.args.name.now t _ c.args.row c.in-Some.ensures.value (ap (λ (rows : List (List Value)). record { columns = t.columns; rows = rows }) c.in_default-push.ensures.ok)
-      ∙ ap (λ (z : Entries). with_row z c.args.name.now c.args.row) c.self.view_is
+    ∙ written c.self.inside.tables.entries c.args.name.now t _ c.args.row c.in-Some.ensures.value (ap (λ (rows : List (List Value)). record { columns = t.columns; rows = rows }) c.in_default-push.ensures.ok)
+    ∙ ap (λ (z : Entries). with_row z c.args.name.now c.args.row) c.self.view_is
 
 pub returns-in-Err-clause-err : goal.returns-in-Err-clause-err
 returns-in-Err-clause-err c =
     let t = c.in-Some.table.now in
     ap entries_of ((c.get_mut.follows.holds (record { columns = t.columns; rows = c.push.new.self })).0)
-      ∙ ap (λ (rows : List (List Value)). entries_of (set_value (λ (k : String Global). bytes_eq c.args.name.now (string_bytes k)) c.self.inside.tables.entries (record { columns = t.columns; rows = rows }))) c.in-Err.ensures.err
-      ∙ not_changed c.self.inside.tables.entries c.args.name.now t c.in-Some.ensures.value ∙ c.self.view_is
+    ∙ ap (λ (rows : List (List Value)). entries_of (set_value (λ (k : String Global). bytes_eq c.args.name.now (string_bytes k)) c.self.inside.tables.entries (record { columns = t.columns; rows = rows }))) c.in-Err.ensures.err
+    ∙ not_changed c.self.inside.tables.entries c.args.name.now t c.in-Some.ensures.value ∙ c.self.view_is
 
 pub returns-in_default-clause-ok : goal.returns-in_default-clause-ok
 returns-in_default-clause-ok c =

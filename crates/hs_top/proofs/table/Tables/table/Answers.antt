@@ -1,4 +1,4 @@
-use Rattle.std.proofs.Common.{◌≡◌, ap, ◌∙◌}
+use Rattle.std.proofs.Common.{ap, ◌∙◌}
 use Rattle.hs_top.specs.Database.{table_of}
 use Rattle.hs_top.proofs.Entries.{looked}
 use Rattle.hs_top.proofs.table.Tables.table.Goals as goal
