@@ -4,8 +4,9 @@
 # usage: bench/first_path.sh [ROWS]      (default: 1,000,000)
 #
 # It proves and builds the program by bin/hsql where need be, writes its inputs into a temporary folder
-# and removes that at the end. This is no part of the gate. The peaks of memory need GNU time as
-# /usr/bin/time; without it they are left out.
+# and removes that at the end. Times are the processor's, user and system, which other work on the machine
+# changes least. This is no part of the gate. The peaks of memory need GNU time as /usr/bin/time; without it
+# they are left out.
 set -eu
 top=$(cd "$(dirname "${BASH_SOURCE[0]}")/.." && pwd)
 rows=${1:-1000000}
@@ -24,16 +25,18 @@ tables_of() {
     awk -v tables="$1" 'BEGIN { for (at = 0; at < tables; at++) printf "a: CREATE TABLE T%d (N BIGINT, M BIGINT);\n", at }'
 }
 
-# run INPUT COMMITS: runs the program on it, and sets `seconds` and `peak`, in KiB.
+# run INPUT COMMITS: runs the program on it, and sets `seconds` of the processor and `peak`, in KiB.
 run() {
+    local user system
     peak=0
     if [ -x /usr/bin/time ]; then
-        /usr/bin/time -f '%e %M' -o "$work/spent" "$top/bin/hsql" bench <"$1" >"$work/output"
-        read -r seconds peak <"$work/spent"
+        /usr/bin/time -f '%U %S %M' -o "$work/spent" "$program" bench <"$1" >"$work/output"
+        read -r user system peak <"$work/spent"
     else
-        local TIMEFORMAT=%R
-        seconds=$({ time "$top/bin/hsql" bench <"$1" >"$work/output"; } 2>&1)
+        local TIMEFORMAT='%U %S'
+        read -r user system < <({ time "$program" bench <"$1" >"$work/output"; } 2>&1)
     fi
+    seconds=$(reckon "$user + $system" 2)
     if [ "$(tail -n 1 "$work/output")" != "closed at $2" ]; then
         echo "first_path.sh: the output doesn't end with 'closed at $2'" >&2
         exit 70
@@ -53,6 +56,7 @@ median_run() {
 reckon() { awk "BEGIN { printf \"%.${2:-0}f\", $1 }"; }
 
 "$top/bin/hsql" bench </dev/null >/dev/null
+program="$top/crates/hsql/out/hsql"
 
 { tables_of 1; rows_of "$rows" 1; } >"$work/once"
 { tables_of 1; rows_of $((2 * rows)) 1; } >"$work/twice"
