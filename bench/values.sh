@@ -1,12 +1,14 @@
 #!/usr/bin/env bash
-# Times calls of the libraries: decimals, dates and LIKE. Prints the medians of eleven rounds.
+# Times calls of the libraries: decimals, LIKE and dates. Prints the median and the least of 101 rounds, which
+# are of about a millisecond each, so that other work on the machine meets few of them.
 #
-# usage: bench/values.sh
+# usage: bench/values.sh [decimal|like|dates]..      (default: all that the repository has)
 #
 # It writes throwaway programs over copies of crates.txt and crates/ into a temporary folder, has them
 # proved and built there, and removes the folder at the end. This is no part of the gate. A first run
 # proves the libraries in the copy, which takes some minutes.
 set -eu
+wanted=" ${*:-decimal like dates} "
 top=$(cd "$(dirname "${BASH_SOURCE[0]}")/.." && pwd)
 work=$(mktemp -d)
 trap 'rm -rf "$work"' EXIT
@@ -41,7 +43,8 @@ program() {
 
 : >"$work/rounds"
 
-program bench_decimal "hs_values hs_decimal" <<'RT'
+if [[ $wanted == *" decimal "* ]]; then
+    program bench_decimal "hs_values hs_decimal" <<'RT'
 //! Times sums, quotients and comparisons of decimals.
 #![tactic(auto)]
 
@@ -108,25 +111,27 @@ fn comparisons(count: u32, seed: i128) -> u32 {
 
 fn main(rt: HostRuntime) -> io::Result<()> {
     let seed = (env::args(&rt)?.count() as i128).wrapping_mul(1_234_567_890_123);
-    for _round in 0..11u32 {
+    for _round in 0..101u32 {
         let start = Instant::now(&rt)?;
-        let total = sums(1_000_000, seed);
+        let total = sums(20_000, seed);
         let spent = start.elapsed(&rt)?.as_nanos();
-        println!(rt; "decimal_sum 1000000 {spent} {total}")?;
+        println!(rt; "decimal_sum 20000 {spent} {total}")?;
         let start = Instant::now(&rt)?;
-        let below = comparisons(1_000_000, seed);
+        let below = comparisons(50_000, seed);
         let spent = start.elapsed(&rt)?.as_nanos();
-        println!(rt; "decimal_comparison 1000000 {spent} {below}")?;
+        println!(rt; "decimal_comparison 50000 {spent} {below}")?;
         let start = Instant::now(&rt)?;
-        let total = quotients(100_000, seed);
+        let total = quotients(2_000, seed);
         let spent = start.elapsed(&rt)?.as_nanos();
-        println!(rt; "decimal_quotient_38_by_38 100000 {spent} {total}")?;
+        println!(rt; "decimal_quotient_38_by_38 2000 {spent} {total}")?;
     }
     Ok(())
 }
 RT
+fi
 
-program bench_like "hs_scalar" <<'RT'
+if [[ $wanted == *" like "* ]]; then
+    program bench_like "hs_scalar" <<'RT'
 //! Times LIKE over texts of 4,000 characters.
 #![tactic(auto)]
 
@@ -158,25 +163,26 @@ fn likes(count: u32, text: &str, pattern: &str) -> u32 {
 
 fn main(rt: HostRuntime) -> io::Result<()> {
     let text = text(rt.alloc())?;
-    for _round in 0..11u32 {
+    for _round in 0..101u32 {
         let start = Instant::now(&rt)?;
-        let found = likes(1_000, text.as_str(), "%xyz%");
+        let found = likes(25, text.as_str(), "%xyz%");
         let spent = start.elapsed(&rt)?.as_nanos();
-        println!(rt; "like_first_letter_absent 1000 {spent} {found}")?;
+        println!(rt; "like_first_letter_absent 25 {spent} {found}")?;
         let start = Instant::now(&rt)?;
-        let found = likes(1_000, text.as_str(), "%hijk%");
+        let found = likes(25, text.as_str(), "%hijk%");
         let spent = start.elapsed(&rt)?.as_nanos();
-        println!(rt; "like_front_repeated 1000 {spent} {found}")?;
+        println!(rt; "like_front_repeated 25 {spent} {found}")?;
         let start = Instant::now(&rt)?;
-        let found = likes(1_000, text.as_str(), "%a%j%a%j");
+        let found = likes(25, text.as_str(), "%a%j%a%j");
         let spent = start.elapsed(&rt)?.as_nanos();
-        println!(rt; "like_runs 1000 {spent} {found}")?;
+        println!(rt; "like_runs 25 {spent} {found}")?;
     }
     Ok(())
 }
 RT
+fi
 
-if grep -q '^hs_temporal:' "$work/crates.txt"; then
+if [[ $wanted == *" dates "* ]] && grep -q '^hs_temporal:' "$work/crates.txt"; then
     program bench_dates "hs_values hs_temporal" <<'RT'
 //! Times the reading of dates.
 #![tactic(auto)]
@@ -198,32 +204,37 @@ fn days(count: u32) -> i64 {
 }
 
 fn main(rt: HostRuntime) -> io::Result<()> {
-    for _round in 0..11u32 {
+    for _round in 0..101u32 {
         let start = Instant::now(&rt)?;
-        let total = days(1_000_000);
+        let total = days(20_000);
         let spent = start.elapsed(&rt)?.as_nanos();
-        println!(rt; "date_read 1000000 {spent} {total}")?;
+        println!(rt; "date_read 20000 {spent} {total}")?;
     }
     Ok(())
 }
 RT
 fi
 
-median() {
-    awk -v label="$1" '$1 == label { print $3 / $2 }' "$work/rounds" | sort -g | awk '{ v[NR] = $1 } END { print v[int((NR + 1) / 2)] }'
+# rank LABEL PART: the nanoseconds a call of the round at that part of the way from the least to the greatest.
+rank() {
+    awk -v label="$1" '$1 == label { print $3 / $2 }' "$work/rounds" | sort -g |
+        awk -v part="$2" '{ v[NR] = $1 } END { print v[1 + int((NR - 1) * part)] }'
 }
 
-report() {
-    printf '%-28s %10.1f ns a call   (wanted: at most %s)\n' "$1" "$(median "$1")" "$2"
-}
-
-report decimal_sum "100 ns"
-report decimal_comparison "100 ns"
-report decimal_quotient_38_by_38 "5,000 ns"
-for label in like_first_letter_absent like_front_repeated like_runs; do
-    nanos=$(median "$label")
-    printf '%-28s %10.1f MB a second  (wanted: at least 100)\n' "$label" "$(awk -v n="$nanos" 'BEGIN { print 4000 * 1000 / n }')"
+for label in $(cut -d ' ' -f 1 "$work/rounds" | sort -u); do
+    median=$(rank "$label" 0.5) least=$(rank "$label" 0)
+    case $label in
+        like_*)
+            awk -v label="$label" -v median="$median" -v least="$least" 'BEGIN {
+                printf "%-26s median %7.1f, best %7.1f MB a second (wanted: at least 100)\n", label, 4e6 / median, 4e6 / least }'
+            ;;
+        *)
+            case $label in
+                date_read) most=300 ;;
+                decimal_quotient_38_by_38) most=5,000 ;;
+                *) most=100 ;;
+            esac
+            printf '%-26s median %7.1f, best %7.1f ns a call (wanted: at most %s)\n' "$label" "$median" "$least" "$most"
+            ;;
+    esac
 done
-if grep -q '^date_read' "$work/rounds"; then
-    report date_read "300 ns"
-fi
