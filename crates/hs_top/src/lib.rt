@@ -18,6 +18,8 @@ mod running;
 mod statement;
 mod status;
 mod table;
+#[cfg(test)]
+mod tests;
 
 pub use run_over::run;
 pub use status::Status;
