@@ -1,20 +1,20 @@
 #!/usr/bin/env bash
 # Lets each allocation of the program fail in turn, on the input of its test.
 #
-# usage: bench/fail_alloc.sh [LAST]      (default: 400)
+# usage: bench/fail_alloc.sh [FIRST [LAST]]      (default: 1 400)
 #
 # A run whose allocation fails must end with status 5 and a front of the test's output. Once the number
 # is past the last allocation, the run ends with status 0 and the whole output; after five such runs in a
-# row the loop stops. `rt try` proves nothing, and this is no part of the gate.
+# row the loop stops. Each run takes some seconds. `rt try` proves nothing, and this is no part of the gate.
 set -eu
 top=$(cd "$(dirname "${BASH_SOURCE[0]}")/.." && pwd)
-last=${1:-400}
+first=${1:-1} last=${2:-400}
 work=$(mktemp -d)
 trap 'rm -rf "$work"' EXIT
 cd "$top/crates/hsql"
 whole=$(wc -c <stdout)
 failed=0 fronts=0 done_in_a_row=0
-for ((number = 1; number <= last && done_in_a_row < 5; number++)); do
+for ((number = first; number <= last && done_in_a_row < 5; number++)); do
     status=0
     rt try --fail-alloc "$number" -- demo <stdin >"$work/output" 2>"$work/log" || status=$?
     size=$(wc -c <"$work/output")
@@ -33,8 +33,7 @@ for ((number = 1; number <= last && done_in_a_row < 5; number++)); do
         exit 1
     fi
 done
+echo "from allocation $first on $failed failed in turn: each run ended with status 5 and a front of the output, $fronts of them not empty"
 if [ "$done_in_a_row" -lt 5 ]; then
-    echo "fail_alloc.sh: allocation $last is not past the last one: give a greater number" >&2
-    exit 1
+    echo "allocation $last may not be past the last one: go on from $((last + 1))"
 fi
-echo "$failed allocations failed in turn: each run ended with status 5 and a front of the output, $fronts of them not empty"
