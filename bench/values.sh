@@ -188,25 +188,37 @@ if [[ $wanted == *" dates "* ]] && grep -q '^hs_temporal:' "$work/crates.txt"; t
 #![tactic(auto)]
 
 use hs_temporal::read_date;
+use std::alloc::Global;
 use std::io;
 use std::time::Instant;
 
+/// A thousand dates.
+fn dates(alloc: Global) -> io::Result<Vec<String>> {
+    let mut dates = Vec::new(alloc);
+    for year in 1500..2500u32 {
+        dates.push(format!(in alloc; "{year}-02-27")?)?;
+    }
+    Ok(dates)
+}
+
 /// The sum of the day numbers of these dates, read so many times.
-fn days(count: u32) -> i64 {
+fn days(times: u32, dates: &[String]) -> i64 {
     let mut total = 0i64;
-    for at in 0..count {
-        let text = if at & 1 == 0 { "2024-02-29" } else { "1969-12-31" };
-        if let Ok(day) = read_date(text) {
-            total = total.wrapping_add(i64::from(day));
+    for _time in 0..times {
+        for date in dates {
+            if let Ok(day) = read_date(date.as_str()) {
+                total = total.wrapping_add(i64::from(day));
+            }
         }
     }
     total
 }
 
 fn main(rt: HostRuntime) -> io::Result<()> {
+    let dates = dates(rt.alloc())?;
     for _round in 0..101u32 {
         let start = Instant::now(&rt)?;
-        let total = days(20_000);
+        let total = days(20, &dates);
         let spent = start.elapsed(&rt)?.as_nanos();
         println!(rt; "date_read 20000 {spent} {total}")?;
     }
