@@ -1,16 +1,17 @@
 -- What the calls of a host do.
 use Rattle.std.specs.Prelude.{◌≡◌, ℕ, ◌+◌, ◌-◌, ◌^◌, ◌<◌, ◌≤◌, min, List, [], ◌++◌, length, take, Result, MatchResult, IsErrOf}
 use Rattle.hs_host.specs.declared.HostFault.{HostFault}
-use Rattle.hs_host.specs.declared.HostFault.TheVariants.{Fault}
+use Rattle.hs_host.specs.declared.HostFault.TheVariants.{Fault, NoMemory}
 
 -- A count of faults has risen. One that is kept in 64 bits and stands at their end counts as risen.
 abbrev pub Rose : ℕ → ℕ → Type 0
 Rose before now = min (before + 1) (2 ^ 64 - 1) ≤ now
 
--- A count of faults never falls, and a call answers `Fault` only where it rose.
+-- A count of faults never falls, a call answers `Fault` only where it rose, and want of memory raises none.
 pub record HasCause {T : Type 0} (before now : ℕ) (result : Result T HostFault) : Type 0 where
   pub kept : before ≤ now
   pub fault : IsErrOf result Fault → Rose before now
+  pub memory : IsErrOf result NoMemory → now ≡ before
 
 -- At `Ok n` the first n bytes of the input that was left are now at the front of the buffer, and n is 0
 -- only at the end of the input or where the buffer has no room. After an `Err` nothing was taken.

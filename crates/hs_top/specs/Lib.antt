@@ -7,3 +7,4 @@ pub mod Machine
 pub mod Reader
 pub mod Running
 pub mod Statement
+pub mod Status

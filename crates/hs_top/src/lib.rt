@@ -8,6 +8,7 @@ mod hand_over;
 mod input_fault;
 mod integer;
 mod item;
+mod laws;
 mod names;
 mod output;
 mod reader;
@@ -21,5 +22,6 @@ mod table;
 #[cfg(test)]
 mod tests;
 
+pub use laws::{runs_end, turns_change_nothing_at_the_end};
 pub use run_over::run;
 pub use status::Status;

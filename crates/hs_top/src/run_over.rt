@@ -22,7 +22,7 @@ const MOST_INPUT: u64 = 1 << 30;
 /// of the transcript, as far as it comes, to the output. The words are `hsql DATABASE`.
 ///
 /// The status says how the run ended and why. Whatever it is, what was written is a front of the
-/// transcript, and it is all of it exactly at `Done`.
+/// transcript, and at `Done` it is all of it.
 #[tactic(auto, using(crate::proofs::Fronts::nothing_yet))]
 pub fn run<H: Host>(alloc: Global, words: &Words, host: &mut H) -> Status
     ensures usage { (result ≡ Status.Usage) ↔ (is_command words.now ≡ false) }

@@ -14,13 +14,19 @@ pub enum Status {
     OutputFault,
     /// Memory was refused. No rule says when.
     NoMemory,
-    /// An item was needed that isn't whole in the first 2^30 bytes of the input, which has more.
+    /// The next item, or the end of the input, was needed and isn't within the first 2^30 bytes of the
+    /// input, which has more.
     InputTooLong,
 }
 
 impl Status {
+    ghost use Rattle.std.specs.Prelude.{◌≡◌};
+    ghost use Rattle.hs_top.specs.Status.{number_of};
+
     /// The number that the program ends with.
-    pub fn number(self) -> u8 {
+    pub fn number(self) -> u8
+        ensures { result ≡ number_of self }
+    {
         match self {
             Status::Done => 0,
             Status::Usage => 1,
