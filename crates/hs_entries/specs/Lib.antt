@@ -1,0 +1,5 @@
+pub mod Entry
+pub mod Items
+pub mod Place
+pub mod Reader
+pub mod Window
