@@ -40,3 +40,7 @@ pub record IsAtEnd (w : Window) : Type 0 where
   pub next : w.at < w.end
   pub room : 0 < w.room
   pub ends : ends w.place (slice_index w.buffer.items w.at) ≡ true
+
+-- nothing is skipped and nothing begun
+abbrev pub IsFresh : Window → Type 0
+IsFresh w = w.start ≡ w.at

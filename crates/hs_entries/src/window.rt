@@ -1,13 +1,13 @@
 // The bytes at hand.
-ghost use Rattle.std.specs.Prelude.{◌≡◌, ◌↔◌, ◌+◌, ◌<◌, ◌≤◌, true, false, [], ◌++◌, length, take, slice_index, slice_range, Some, IfOk, OnOk, IsErrOf, IsTrue};
+ghost use Rattle.std.specs.Prelude.{◌≡◌, ◌↔◌, ◌+◌, ◌-◌, ◌<◌, ◌≤◌, true, false, [], ◌∷◌, ◌++◌, length, take, drop, slice_index, Some, IfOk, OnOk, OnErr, IsErrOf, IsTrue};
 ghost use Rattle.hs_host.specs.Host.{Rose};
-ghost use Rattle.hs_entries.specs.Place.{leads, passes, ends};
+ghost use Rattle.hs_entries.specs.Place.{leads, ends, next_place};
 
 use crate::input_fault::InputFault;
 use crate::item::MOST_BYTES;
 use crate::place::{Place, scan};
 use hs_host::Source;
-use std::alloc::Global;
+use std::alloc::{AllocError, Global};
 
 /// What comes next behind the bytes that were looked at.
 #[derive(Clone, Copy, Debug, PartialEq, Eq)]
@@ -34,7 +34,7 @@ pub struct Window {
 }
 
 impl Window {
-    ghost use Rattle.hs_entries.specs.Window.{skipped_of, begun_of, left_of, ahead_of, room_of, IsSound, IsAtEnd};
+    ghost use Rattle.hs_entries.specs.Window.{skipped_of, begun_of, left_of, ahead_of, room_of, IsSound, IsAtEnd, IsFresh};
 
     /// No bytes, of which so many may be used. Takes no memory.
     pub fn new(alloc: Global, room: u64) -> Window
@@ -119,19 +119,38 @@ impl Window {
     }
 
     // Looks at the next bytes, which lead to a place.
-    fn advance(&mut self, count: usize, place: Place) {
+    fn advance(&mut self, count: usize, place: Place)
+        requires sound { IsSound self.old }
+        requires there { self.old.at + count ≤ self.old.end }
+        requires room { count ≤ self.old.room }
+        requires leads { leads self.old.place (take count (left_of self.old)) ≡ Some place }
+        ensures sound { IsSound self.new }
+        ensures fields { self.new ≡ record self.old { at = self.old.at + count; room = self.old.room - count; place = place } }
+    {
         self.at += count;
         self.room -= count as u64;
         self.place = place;
     }
 
     // Whether an entry ends with the next byte.
-    fn is_at_end(&self) -> bool {
+    fn is_at_end(&self) -> bool
+        requires sound { IsSound self.now }
+        requires there { self.now.at < self.now.end }
+        ensures { result ≡ ends self.now.place (slice_index self.now.buffer.items self.now.at) }
+    {
         self.buffer[self.at] == b';' && self.place.is_open()
     }
 
     // Skips what is begun with the next byte, which leads between two entries.
-    fn skip(&mut self) {
+    fn skip(&mut self)
+        requires sound { IsSound self.old }
+        requires there { self.old.at < self.old.end }
+        requires room { 0 < self.old.room }
+        requires goes_on { ends self.old.place (slice_index self.old.buffer.items self.old.at) ≡ false }
+        requires between { next_place self.old.place (slice_index self.old.buffer.items self.old.at) ≡ Place.Between }
+        ensures sound { IsSound self.new }
+        ensures fields { self.new ≡ record self.old { at = self.old.at + 1; first = self.old.at + 1; room = self.old.room - 1; place = Place.Between } }
+    {
         self.at += 1;
         self.room -= 1;
         self.first = self.at;
@@ -139,12 +158,24 @@ impl Window {
     }
 
     /// The bytes of the entry that ends with the next byte.
-    pub fn entry(&self) -> &[u8] {
+    pub fn entry(&self) -> &[u8]
+        requires sound { IsSound self.now }
+        requires there { self.now.at < self.now.end }
+        ensures { result.now ≡ begun_of self.now ++ slice_index self.now.buffer.items self.now.at ∷ [] }
+    {
         &self.buffer[self.first..self.at + 1]
     }
 
     /// Uses the bytes that were looked at, and `count` more.
-    pub fn use_to(&mut self, count: usize) {
+    pub fn use_to(&mut self, count: usize)
+        requires sound { IsSound self.old }
+        requires there { count ≤ length (left_of self.old) }
+        requires room { count ≤ self.old.room }
+        ensures sound { IsSound self.new }
+        ensures ahead { ahead_of self.new ≡ drop count (left_of self.old) }
+        ensures fresh { IsFresh self.new }
+        ensures room { self.new.room + count ≡ self.old.room }
+    {
         self.at += count;
         self.room -= count as u64;
         self.start = self.at;
@@ -154,7 +185,23 @@ impl Window {
 
     /// Drops what is skipped, and reads more bytes behind what is begun. Answers whether any came, and none
     /// comes only at the end of the input.
-    pub fn refill<S: Source>(&mut self, source: &mut S) -> Result<bool, InputFault> {
+    pub fn refill<S: Source>(&mut self, source: &mut S) -> Result<bool, InputFault>
+        requires sound { IsSound self.old }
+        requires kept { length (begun_of self.old) < MOST_BYTES }
+        requires looked { left_of self.old ≡ [] }
+        ensures sound { IsSound self.new }
+        ensures begun { OnOk result (begun_of self.new ≡ begun_of self.old) }
+        ensures skipped { OnOk result (skipped_of self.new ≡ []) }
+        ensures place { OnOk result (self.new.place ≡ self.old.place) }
+        ensures room { self.new.room ≡ self.old.room }
+        ensures bytes { S.tells → OnOk result (left_of self.new ++ S.unread source.new ≡ S.unread source.old) }
+        ensures more { IfOk result (λ more. IsTrue more ↔ (0 < length (left_of self.new))) }
+        ensures end { S.tells → IfOk result (λ more. more ≡ false → S.unread source.new ≡ []) }
+        ensures fault { IsErrOf result InputFault.Fault → Rose (S.input_faults source.old) (S.input_faults source.new) }
+        ensures too_long { IsErrOf result InputFault.TooLong → ⊥ }
+        ensures later { S.input_faults source.old ≤ S.input_faults source.new }
+        ensures only { S.only_input source.old source.new }
+    {
         self.make_room()?;
         let count = source.read_input(&mut self.buffer[self.end..])?;
         self.end += count;
@@ -162,9 +209,19 @@ impl Window {
     }
 
     // Drops what is skipped, so that what is begun stands at the front of the buffer.
-    fn make_room(&mut self) -> Result<(), InputFault> {
+    fn make_room(&mut self) -> Result<(), AllocError>
+        requires sound { IsSound self.old }
+        ensures sound { IsSound self.new }
+        ensures size { OnOk result (length self.new.buffer.items ≡ MOST_BYTES) }
+        ensures start { OnOk result ((self.new.start ≡ 0) × (self.new.first ≡ 0)) }
+        ensures end { OnOk result ((self.new.at ≡ self.old.at - self.old.first) × (self.new.end ≡ self.old.end - self.old.first)) }
+        ensures begun { OnOk result (begun_of self.new ≡ begun_of self.old) }
+        ensures place { self.new.place ≡ self.old.place }
+        ensures room { self.new.room ≡ self.old.room }
+        ensures err { OnErr result (self.new ≡ self.old) }
+    {
         if self.buffer.is_empty() {
-            self.buffer = vec![in *self.buffer.allocator(); 0; MOST_BYTES]?;
+            self.buffer = new_buffer(*self.buffer.allocator())?;
         }
         self.buffer.copy_within(self.first..self.end, 0);
         self.at -= self.first;
@@ -173,4 +230,11 @@ impl Window {
         self.first = 0;
         Ok(())
     }
+}
+
+// Memory for the bytes at hand.
+fn new_buffer(alloc: Global) -> Result<Vec<u8>, AllocError>
+    ensures { IfOk result (λ buffer. length buffer.items ≡ MOST_BYTES) }
+{
+    vec![in alloc; 0; MOST_BYTES]
 }
