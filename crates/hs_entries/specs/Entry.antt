@@ -1,5 +1,5 @@
 -- What an entry is, by its bytes.
-use Rattle.std.specs.Prelude.{ℕ, ◌+◌, ◌<◌, Bool, true, false, ◌==◌, ◌||◌, ◌&&◌, nat_lt, nat_le, if◌then◌else◌, List, [], ◌∷◌, length, drop}
+use Rattle.std.specs.Prelude.{ℕ, ◌+◌, ◌≡◌, ◌≤◌, Bool, true, false, ◌==◌, ◌||◌, ◌&&◌, nat_lt, nat_le, if◌then◌else◌, List, [], ◌∷◌, length, drop}
 use Rattle.std.specs.List.{before_first, after_first, list_all, list_any}
 use Rattle.std.specs.Str.{is_utf8}
 use Rattle.hs_entries.specs.declared.item.Item.{Item}
@@ -19,7 +19,7 @@ is_name_byte b = is_letter b || is_digit b || b == 95
 -- the name of a session: a letter, and then up to 31 letters, digits and `_`
 abbrev pub is_session : List ℕ → Bool
 is_session [] = false
-is_session (b ∷ bs) = is_letter b && list_all is_name_byte bs && nat_lt (length bs) MOST_NAME_BYTES
+is_session (b ∷ bs) = is_letter b && (nat_lt (length bs) MOST_NAME_BYTES && list_all is_name_byte bs)
 
 abbrev pub is_colon : ℕ → Bool
 is_colon b = b == 58
@@ -52,3 +52,10 @@ item_of n bytes =
 -- the item of an entry that the input ends before its `;`
 unfoldable pub cut_item_of : ℕ → List ℕ → Item
 cut_item_of n bytes = if is_too_long bytes then TooLong n else Bad n
+
+-- these are the name of its session and its statement
+pub record IsSplit (bytes name text : List ℕ) : Type 0 where
+  pub has : has_session bytes ≡ true
+  pub short : length name ≤ MOST_NAME_BYTES
+  pub session : name ≡ session_of bytes
+  pub statement : text ≡ statement_of bytes
