@@ -100,3 +100,21 @@ between_is _ h = cc
 pub stop_leads : (p : Place) (a b : ℕ) → stops p a ≡ true → a ≡ b → ends p b ≡ false → next_place p b ≡ Between
 stop_leads p a b stop same on =
     let back : is_between (next_place p b) ≡ true = grind (arith, stop, same, on) in between_is (next_place p b) back
+
+pub is_between-Between : is_between Between ≡ true
+unfolding is_between
+is_between-Between = refl
+
+pub leads_step : (p q : Place) (b : ℕ) (xs : List ℕ) → leads p (b ∷ xs) ≡ Some q → (stops p b ≡ false) × (leads (next_place p b) xs ≡ Some q)
+leads_step p q b xs h =
+    elim (stops p b) as (λ v. stops p b ≡ v → (stops p b ≡ false) × (leads (next_place p b) xs ≡ Some q))
+      [ true ↦ λ is. absurd (grind (arith, h, is))
+      | false ↦ λ is. (is, grind (arith, h, is))
+      ] refl
+
+pub passes_step : (p q : Place) (b : ℕ) (xs : List ℕ) → passes p (b ∷ xs) ≡ Some q → (ends p b ≡ false) × (passes (next_place p b) xs ≡ Some q)
+passes_step p q b xs h =
+    elim (ends p b) as (λ v. ends p b ≡ v → (ends p b ≡ false) × (passes (next_place p b) xs ≡ Some q))
+      [ true ↦ λ is. absurd (grind (arith, h, is))
+      | false ↦ λ is. (is, grind (arith, h, is))
+      ] refl

@@ -1,3 +1,5 @@
+pub mod ItemSteps
 pub mod Leading
+pub mod Looking
 pub mod Sessions
 pub mod Spans
