@@ -1,5 +1,6 @@
 pub mod ItemSteps
 pub mod Leading
+pub mod LeftSteps
 pub mod Looking
 pub mod Sessions
 pub mod Spans

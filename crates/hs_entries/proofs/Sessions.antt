@@ -1,5 +1,5 @@
 -- What an entry's bytes say.
-use Rattle.std.proofs.Common.{◌≡◌, ◌≢◌, ℕ, ◌+◌, ◌<◌, ◌≤◌, true, false, Bool, ◌&&◌, ◌==◌, nat_lt, List, [], ◌∷◌, length, Option, Some, None, Bor, IfNone, IfSome, refl, sym, ap, ◌∙◌, arith, lit<}
+use Rattle.std.proofs.Common.{◌≡◌, ◌≢◌, ℕ, ◌+◌, ◌<◌, ◌≤◌, true, false, Bool, ◌&&◌, ◌==◌, nat_lt, if◌then◌else◌, List, [], ◌∷◌, length, Option, Some, None, Bor, IfNone, IfSome, refl, sym, ap, ◌∙◌, arith, lit<}
 use Rattle.std.specs.List.{position_or_len, before_first, after_first, list_any}
 use Rattle.std.specs.Str.{is_utf8, IsUtf8}
 use Rattle.std.proofs.lemmas.Bool.Decides.{nat_tests}
@@ -9,6 +9,7 @@ use Rattle.std.proofs.lemmas.Str.Pattern.{IsSplitOnceResult, split_once_first}
 use Rattle.hs_entries.specs.declared.item.Item.{Item}
 use Rattle.hs_entries.specs.declared.item.Item.TheVariants.{Entry, Bad, TooLong}
 use Rattle.hs_entries.specs.declared.item.TheConstants.{MOST_BYTES, MOST_NAME_BYTES}
+use Rattle.hs_entries.specs.Left.{IsNumbered}
 use Rattle.hs_entries.specs.Entry.{is_letter, is_name_byte, is_colon, is_session, session_of, statement_of, place_of, has_session, is_too_long, item_of, cut_item_of, IsSplit}
 
 -- an element passes a test where the first that does has a place
@@ -63,3 +64,20 @@ item_of-entry n bytes entry name text session statement short good same split fr
     let front_is = split_bytes.session in
     let back_is = split_bytes.statement in
     grind (arith, nat_tests)
+
+-- a whole entry has its number
+pub item_of-numbered : (n : ℕ) (bytes : List ℕ) → IsNumbered (item_of n bytes) n (n + 1)
+unfolding item_of
+item_of-numbered n bytes =
+    elim (is_too_long bytes) as (λ v. IsNumbered (if v then TooLong n else if has_session bytes && is_utf8 bytes then Entry n (session_of bytes) (statement_of bytes) (place_of bytes) else Bad n) n (n + 1))
+      [ true ↦ (refl, refl)
+      | false ↦ elim (has_session bytes && is_utf8 bytes) as (λ v. IsNumbered (if v then Entry n (session_of bytes) (statement_of bytes) (place_of bytes) else Bad n) n (n + 1)) [ true ↦ (refl, refl) | false ↦ (refl, refl) ]
+      ]
+
+pub cut_item_of-long : (n : ℕ) (bytes : List ℕ) → is_too_long bytes ≡ true → cut_item_of n bytes ≡ TooLong n
+unfolding cut_item_of
+cut_item_of-long n bytes h = rw h refl
+
+pub cut_item_of-short : (n : ℕ) (bytes : List ℕ) → is_too_long bytes ≡ false → cut_item_of n bytes ≡ Bad n
+unfolding cut_item_of
+cut_item_of-short n bytes h = rw h refl

@@ -1,5 +1,6 @@
 pub mod Entry
 pub mod Items
+pub mod Left
 pub mod Place
 pub mod Reader
 pub mod Window

@@ -190,10 +190,12 @@ impl Window {
         requires kept { length (begun_of self.old) < MOST_BYTES }
         requires looked { left_of self.old ≡ [] }
         ensures sound { IsSound self.new }
+        ensures fresh { IsFresh self.old → OnOk result (IsFresh self.new) }
         ensures begun { OnOk result (begun_of self.new ≡ begun_of self.old) }
         ensures skipped { OnOk result (skipped_of self.new ≡ []) }
         ensures place { OnOk result (self.new.place ≡ self.old.place) }
         ensures room { self.new.room ≡ self.old.room }
+        ensures passed { room_of self.new ≤ room_of self.old }
         ensures bytes { S.tells → OnOk result (left_of self.new ++ S.unread source.new ≡ S.unread source.old) }
         ensures more { IfOk result (λ more. IsTrue more ↔ (0 < length (left_of self.new))) }
         ensures end { S.tells → IfOk result (λ more. more ≡ false → S.unread source.new ≡ []) }
