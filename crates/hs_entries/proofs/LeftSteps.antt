@@ -1,7 +1,8 @@
 -- What is left of an input, one step after another.
 use Rattle.std.proofs.Common.{◌≡◌, ◌≢◌, ℕ, suc, ◌+◌, ◌-◌, ◌<◌, ◌≤◌, true, false, Bool, List, [], ◌∷◌, ◌++◌, Some, length, take, drop, slice_index, slice_range, length-append, refl, sym, ap, subst, append_assoc, append-nil, ◌∙◌, arith}
 use Rattle.std.proofs.Math.Seq.{take-append-add}
-use Rattle.std.proofs.lemmas.List.{take_all, length_push, length-replicate}
+use Rattle.std.proofs.lemmas.List.{take_all, take-take, take-append-drop, drop_more, get_or-take, length-take, length-take-le, length-drop, length_push, length-replicate}
+use Rattle.std.proofs.lemmas.List.Edits.{length-between}
 use Rattle.std.proofs.lemmas.Bool.Decides.{nat_tests}
 use Rattle.hs_entries.specs.declared.item.Item.{Item}
 use Rattle.hs_entries.specs.declared.item.Item.TheVariants.{Entry, Bad, TooLong, End}
@@ -12,10 +13,11 @@ use Rattle.hs_entries.specs.Place.{next_place, ends, stops, leads, is_between, i
 use Rattle.hs_entries.specs.Entry.{item_of, cut_item_of, is_too_long, has_session}
 use Rattle.hs_entries.specs.Items.{items_from, cut_items, no_items}
 use Rattle.hs_entries.specs.Left.{Left, items_of, whole_of, RunsOut, IsBeyond, TakesFirst, TakesWhole, IsNumbered, KeepsRoom, Takes, Continues, long}
-use Rattle.hs_entries.specs.Reader.{cut_at}
+use Rattle.hs_entries.specs.Reader.{cut_at, Shrinks}
 use Rattle.hs_entries.proofs.ItemSteps.{items_from-end, items_from-skip, items_from-more, items_from-leads, items_from-window, items_from-within}
 use Rattle.hs_entries.specs.declared.window.Window.{Window}
 use Rattle.hs_entries.specs.Window.{begun_of, left_of, ahead_of, room_of, IsSound, IsAtEnd, IsFresh}
+use Rattle.hs_entries.proofs.Leading.{stop_leads}
 use Rattle.hs_entries.proofs.Looking.{length-ahead, left_of-next}
 use Rattle.hs_entries.proofs.Sessions.{item_of-long, item_of-numbered, cut_item_of-long, cut_item_of-short}
 
@@ -220,3 +222,137 @@ entry_step n w after item rest sound at_end item_is ahead_is fresh room_is =
         (let has = fresh_room after fresh in omega (arith, room_is))
         item_is
         (ends_step n w.place (begun_of w) w.room byte (more ++ rest) at_end.ends at_end.room))
+
+-- a window has read more
+pub refill_on : (n : ℕ) (w after : Window) (unread unread' : List ℕ) → IsSound w → IsSound after → left_of w ≡ [] → begun_of after ≡ begun_of w
+    → after.place ≡ w.place → after.room ≡ w.room → left_of after ++ unread' ≡ unread
+    → Continues (left_at n Between [] (room_of w) (ahead_of w ++ unread)) (left_at n Between [] (room_of after) (ahead_of after ++ unread'))
+refill_on n w after unread unread' sound sound' looked begun_is place_is room_is bytes =
+    let same : left_at n w.place (begun_of w) w.room (left_of w ++ unread) ≡ left_at n after.place (begun_of after) after.room (left_of after ++ unread') =
+      rw (begun_is, place_is, room_is, bytes, looked) refl in
+    continues_trans _ (left_at n w.place (begun_of w) w.room (left_of w ++ unread)) _ (window_on n w unread sound)
+      (let P : Left → Type 0 = λ l. Continues l (left_at n Between [] (room_of after) (ahead_of after ++ unread')) in
+        subst P (sym same) (continues_sym _ _ (window_on n after unread' sound')))
+
+pub refill_grows : (w after : Window) → IsSound w → IsSound after → left_of w ≡ [] → after.room ≡ w.room → 0 < length (left_of after)
+    → room_of after + length (ahead_of w) < room_of w + length (ahead_of after)
+refill_grows w after sound sound' looked room_is more =
+    let none : length (left_of w) ≡ 0 = ap (λ (l : List ℕ). length l) looked in
+    omega (arith, length-ahead w sound, length-ahead after sound')
+
+-- an entry that is begun has a byte
+pub begun_some : (p : Place) (xs : List ℕ) → leads Between xs ≡ Some p → is_entry p ≡ true → 0 < length xs
+begun_some p [] h entry =
+    let same : Between ≡ p = cc in
+    let no : is_entry p ≡ false = ap is_entry (sym same) ∙ is_entry-Between in absurd cc
+begun_some p (x ∷ xs) h entry = omega arith
+
+pub cut_shrinks : (p : Place) (too_long : Bool) (n before now : ℕ) → (is_entry p ≡ true → now < before) → now ≤ before → Shrinks (cut_at p too_long n) before now
+cut_shrinks p too_long n before now some all = go (is_entry p) refl too_long
+    where
+      go : (v : Bool) → is_entry p ≡ v → (w : Bool) → Shrinks (cut_at p w n) before now
+      go true h true = rw h (some h)
+      go true h false = rw h (some h)
+      go false h w = rw h all
+
+-- a window has looked at all bytes, and the input ends
+pub cut_at_end_step : (n m : ℕ) (w after : Window) → IsSound w → left_of w ≡ [] → length (begun_of w) ≤ MOST_BYTES
+    → ahead_of after ≡ [] → room_of after ≡ w.room
+    → Takes (left_at n Between [] (room_of w) (ahead_of w ++ [])) (cut_at w.place false n) (left_at m Between [] (room_of after) (ahead_of after ++ []))
+cut_at_end_step n m w after sound looked short ahead_is room_is =
+    let at_end : left_of w ++ [] ≡ [] = append-nil (left_of w) ∙ looked in
+    let left_over : ahead_of after ++ [] ≡ [] = append-nil (ahead_of after) ∙ ahead_is in
+    continues_takes _ (left_at n w.place (begun_of w) w.room (left_of w ++ [])) _ (cut_at w.place false n) (window_on n w [] sound)
+      (takes_at n m w.place (begun_of w) (left_of w ++ []) [] (ahead_of after ++ []) [] w.room (room_of after) w.room (cut_at w.place false n) (cut_at w.place false n)
+        at_end left_over room_is refl (cut_step n m w.place (begun_of w) w.room false (too_long_false (begun_of w) short)))
+
+pub passed_some : (w : Window) → IsSound w → is_entry w.place ≡ true → w.room < room_of w
+passed_some w sound entry =
+    let some = begun_some w.place (begun_of w) sound.leads entry in
+    let begun = length-between w.buffer.items w.first w.at (let left = sound.left in let end = sound.end in omega arith) in
+    let skipped = sound.skipped in
+    omega arith
+
+pub fresh_ahead : (w : Window) → IsFresh w → ahead_of w ≡ left_of w
+fresh_ahead w fresh = ap (λ (i : ℕ). slice_range w.buffer.items i w.end) fresh
+
+-- bytes lead on in an entry that is too long
+skim_on : (n : ℕ) (from q : Place) (left rest : List ℕ) (room k count : ℕ) → leads from (take count (take room left)) ≡ Some q
+    → count ≤ length (take room left) → room ≡ count + k → Continues (left_at n from long room (left ++ rest)) (left_at n q long k (drop count left ++ rest))
+skim_on n from q left rest room k count h within room_is =
+    let short = length-take room left in
+    let front : take count (take room left) ≡ take count left = take-take count room left (omega arith) in
+    let size : length (take count left) ≡ count = length-take-le count left (omega arith) in
+    let all : left ++ rest ≡ take count left ++ (drop count left ++ rest) =
+      ap (λ (l : List ℕ). l ++ rest) (sym (take-append-drop count left)) ∙ append_assoc (take count left) (drop count left) rest in
+    let start : left_at n from long room (left ++ rest) ≡ left_at n from long (length (take count left) + k) (take count left ++ (drop count left ++ rest)) =
+      ap (λ (i : ℕ). left_at n from long i (left ++ rest)) (omega (arith, size)) ∙ ap (λ (l : List ℕ). left_at n from long (length (take count left) + k) l) all in
+    let leads_all : leads from (take count left) ≡ Some q = ap (λ (l : List ℕ). leads from l) (sym front) ∙ h in
+    let grown = length-append long (take count left) in
+    let on = leads_on n from q long (take count left) (drop count left ++ rest) k leads_all in
+    let P : Left → Type 0 = λ l. Continues l (left_at n q long k (drop count left ++ rest)) in
+    subst P (sym start) (continues_trans _ _ _ on (long_on n q (long ++ take count left) k (drop count left ++ rest) (omega (arith, length-long))))
+
+-- the byte behind them
+skim_byte : (left : List ℕ) (room count : ℕ) → count < length (take room left) → drop count left ≡ slice_index (take room left) count ∷ drop (count + 1) left
+skim_byte left room count inside =
+    let short = length-take room left in
+    drop_more left count 0 (omega arith) ∙ ap (λ (b : ℕ). b ∷ drop (count + 1) left) (sym (get_or-take room left count 0 (omega arith)))
+
+module _ (n : ℕ) (from q : Place) (w after : Window) (count : ℕ) (rest : List ℕ) (fresh : IsFresh w) (fresh' : IsFresh after)
+    (h : leads from (take count (take w.room (left_of w))) ≡ Some q) where
+  -- no more bytes are at hand
+  pub skim_nothing : count ≤ length (take w.room (left_of w)) → ahead_of after ≡ drop count (left_of w) → after.room + count ≡ w.room
+      → Continues (left_at n from long (room_of w) (ahead_of w ++ rest)) (left_at n q long (room_of after) (ahead_of after ++ rest))
+  skim_nothing within ahead_is room_is =
+      rw (fresh_room w fresh, fresh_ahead w fresh, fresh_room after fresh', ahead_is) (skim_on n from q (left_of w) rest w.room after.room count h within (omega (arith, room_is)))
+
+  -- no more bytes may be used
+  pub skim_limit : count ≡ length (take w.room (left_of w)) → ahead_of after ≡ drop count (left_of w) → after.room + count ≡ w.room → 0 < length (ahead_of after)
+      → IsBeyond (left_at n from long (room_of w) (ahead_of w ++ rest)) × (room_of after < length (ahead_of after))
+  skim_limit whole ahead_is room_is more =
+      let short = length-take w.room (left_of w) in
+      let behind = length-drop count (left_of w) in
+      let size : length (ahead_of after) ≡ length (drop count (left_of w)) = ap (λ (l : List ℕ). length l) ahead_is in
+      let full : after.room ≡ 0 = omega (arith, room_is) in
+      let none : room_of after ≡ 0 = fresh_room after fresh' ∙ full in
+      let on = skim_nothing (omega arith) ahead_is room_is in
+      let total = length-append (ahead_of after) rest in
+      let beyond : IsBeyond (left_at n q long (room_of after) (ahead_of after ++ rest)) = rw none (beyond_limit n q long (ahead_of after ++ rest) (omega arith)) in
+      (continues_beyond _ _ on beyond, omega arith)
+
+  -- the entry ends
+  pub skim_entry : count < length (take w.room (left_of w)) → ahead_of after ≡ drop (count + 1) (left_of w) → after.room + (count + 1) ≡ w.room
+      → ends q (slice_index (take w.room (left_of w)) count) ≡ true
+      → Takes (left_at n from long (room_of w) (ahead_of w ++ rest)) (TooLong n) (left_at (n + 1) Between [] (room_of after) (ahead_of after ++ rest))
+  skim_entry inside ahead_is room_is is =
+      let byte = slice_index (take w.room (left_of w)) count in
+      let on : Continues (left_at n from long (room_of w) (ahead_of w ++ rest)) (left_at n q long (after.room + 1) (drop count (left_of w) ++ rest)) =
+        rw (fresh_room w fresh, fresh_ahead w fresh) (skim_on n from q (left_of w) rest w.room (after.room + 1) count h (omega arith) (omega (arith, room_is))) in
+      let more = length_push long byte in
+      continues_takes _ _ _ _ on (takes_at n (n + 1) q long (drop count (left_of w) ++ rest) (byte ∷ (drop (count + 1) (left_of w) ++ rest)) (ahead_of after ++ rest)
+        (drop (count + 1) (left_of w) ++ rest) (after.room + 1) (room_of after) ((after.room + 1) - 1) (TooLong n) (item_of n (long ++ byte ∷ []))
+        (ap (λ (l : List ℕ). l ++ rest) (skim_byte (left_of w) w.room count inside))
+        (ap (λ (l : List ℕ). l ++ rest) ahead_is)
+        (let has = fresh_room after fresh' in omega arith)
+        (sym (item_of-long n (long ++ byte ∷ []) (omega (arith, length-long))))
+        (ends_step n q long (after.room + 1) byte (drop (count + 1) (left_of w) ++ rest) is (omega arith)))
+
+  -- the comment ends
+  pub skim_skipped : count < length (take w.room (left_of w)) → ahead_of after ≡ drop (count + 1) (left_of w) → after.room + (count + 1) ≡ w.room
+      → ends q (slice_index (take w.room (left_of w)) count) ≡ false → stops q (slice_index (take w.room (left_of w)) count) ≡ true
+      → Continues (left_at n from long (room_of w) (ahead_of w ++ rest)) (left_at n Between [] (room_of after) (ahead_of after ++ rest))
+  skim_skipped inside ahead_is room_is goes stop =
+      let byte = slice_index (take w.room (left_of w)) count in
+      let on : Continues (left_at n from long (room_of w) (ahead_of w ++ rest)) (left_at n q long (after.room + 1) (drop count (left_of w) ++ rest)) =
+        rw (fresh_room w fresh, fresh_ahead w fresh) (skim_on n from q (left_of w) rest w.room (after.room + 1) count h (omega arith) (omega (arith, room_is))) in
+      let back = stop_leads q byte byte stop refl goes in
+      let skip = skip_on n q long (after.room + 1) byte (drop (count + 1) (left_of w) ++ rest) goes back (omega arith) in
+      let same : left_at n q long (after.room + 1) (drop count (left_of w) ++ rest) ≡ left_at n q long (after.room + 1) (byte ∷ (drop (count + 1) (left_of w) ++ rest)) =
+        ap (λ (l : List ℕ). left_at n q long (after.room + 1) (l ++ rest)) (skim_byte (left_of w) w.room count inside) in
+      let end : left_at n Between [] ((after.room + 1) - 1) (drop (count + 1) (left_of w) ++ rest) ≡ left_at n Between [] (room_of after) (ahead_of after ++ rest) =
+        ap (λ (k : ℕ). left_at n Between [] k (drop (count + 1) (left_of w) ++ rest)) (let has = fresh_room after fresh' in omega arith)
+        ∙ ap (λ (l : List ℕ). left_at n Between [] (room_of after) (l ++ rest)) (sym ahead_is) in
+      let P : Left → Type 0 = λ l. Continues l (left_at n Between [] ((after.room + 1) - 1) (drop (count + 1) (left_of w) ++ rest)) in
+      let Q : Left → Type 0 = λ l. Continues (left_at n from long (room_of w) (ahead_of w ++ rest)) l in
+      subst Q end (continues_trans _ _ _ on (subst P (sym same) skip))

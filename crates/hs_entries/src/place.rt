@@ -71,9 +71,9 @@ impl Place {
         }
     }
 
-    /// Whether it is outside every text, quoted name and comment.
+    // Whether it is outside every text, quoted name and comment.
     #[tactic(auto, unfolding(crate::specs::Place::is_open))]
-    pub fn is_open(self) -> bool
+    fn is_open(self) -> bool
         ensures { result ≡ spec.is_open self }
     {
         matches!(
@@ -85,6 +85,13 @@ impl Place {
                 | Place::Dash
                 | Place::Slash
         )
+    }
+
+    /// Whether an entry ends with this byte: a `;` outside every text, quoted name and comment.
+    pub fn ends(self, byte: u8) -> bool
+        ensures { result ≡ spec.ends self byte }
+    {
+        byte == b';' && self.is_open()
     }
 
     /// Whether what was begun there is an entry, even if the input goes no further.
@@ -100,7 +107,7 @@ impl Place {
     fn stops(self, byte: u8) -> bool
         ensures { result ≡ spec.stops self byte }
     {
-        (byte == b';' && self.is_open()) || self.next(byte) == Place::Between
+        self.ends(byte) || self.next(byte) == Place::Between
     }
 
     // How many bytes at the front can't lead to another place.

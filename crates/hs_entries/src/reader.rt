@@ -3,7 +3,7 @@ ghost use Rattle.std.specs.Prelude.{◌≡◌, true, false, ℕ, ◌+◌, ◌-�
 ghost use Rattle.std.proofs.Props.{props};
 ghost use Rattle.hs_host.specs.Host.{Rose};
 ghost use Rattle.hs_entries.specs.Place.{is_entry};
-ghost use Rattle.hs_entries.specs.Left.{TakesFirst, TakesWhole, RunsOut, IsBeyond, IsNumbered, Takes, Continues};
+ghost use Rattle.hs_entries.specs.Left.{TakesFirst, TakesWhole, RunsOut, IsBeyond, IsNumbered, KeepsRoom, Takes, Continues};
 ghost use Rattle.hs_entries.specs.Window.{IsSound, IsAtEnd, IsFresh, left_of, begun_of, room_of};
 
 use crate::entry::{cut_entry, read_entry};
@@ -70,6 +70,46 @@ impl EntryReader {
         self.window.look()
     }
 
+    /// The next item of the input. It asks for input only where it needs a byte and has none left. A fault is
+    /// kept: each later call answers it again, without a call of the source.
+    ///
+    /// `Fault` comes only where a read of the source failed in this call. `TooLong` comes exactly where the
+    /// next item isn't whole, up to its `;`, within the limit, the input has more, and no read of this call
+    /// fails first. `NoMemory` is free.
+    pub fn next<S: Source>(&mut self, source: &mut S) -> Result<Item, InputFault>
+        // The items are those of the bytes at hand and then those that the source has left.
+        ensures item { S.tells → IfOk result (λ item. TakesFirst (left_items self.old (S.unread source.old)) item (left_items self.new (S.unread source.new))) }
+        ensures number { IfOk result (λ item. IsNumbered item (next_number self.old) (next_number self.new)) }
+        ensures end { S.tells → IfOk result (λ item. item ≡ Item.End → ahead self.new ++ S.unread source.new ≡ []) }
+        ensures shrinks { IfOk result (λ item. Shrinks item (room self.old) (room self.new)) }
+
+        // Within the limit.
+        ensures whole { S.tells → IfOk result (λ item. RunsOut (left self.old (S.unread source.old)) → TakesWhole (left_whole self.old (S.unread source.old)) item (left_whole self.new (S.unread source.new))) }
+        ensures used { S.tells → OnOk result (KeepsRoom (left self.old (S.unread source.old)) (left self.new (S.unread source.new))) }
+        ensures too_long { S.tells → kept self.old ≡ None → IsErrOf result InputFault.TooLong → IsBeyond (left self.old (S.unread source.old)) }
+        ensures beyond { kept self.old ≡ None → IsErrOf result InputFault.TooLong → room self.new < length (ahead self.new) }
+
+        // Faults, and what is kept of them.
+        ensures fault { kept self.old ≡ None → IsErrOf result InputFault.Fault → Rose (S.input_faults source.old) (S.input_faults source.new) }
+        ensures kept { IfErr result (λ fault. kept self.new ≡ Some fault) }
+        ensures ok { OnOk result ((kept self.old ≡ None) × (kept self.new ≡ None)) }
+        ensures again { IfSome (kept self.old) (λ fault. (result ≡ Err fault) × (self.new ≡ self.old)) }
+
+        // The source.
+        ensures ready { ready self.old ≡ true → source.new ≡ source.old }
+        ensures later { S.input_faults source.old ≤ S.input_faults source.new }
+        ensures only { S.only_input source.old source.new }
+    {
+        if let Some(fault) = self.kept {
+            return Err(fault);
+        }
+        let item = self.read_item(source);
+        if let Err(fault) = &item {
+            self.kept = Some(*fault);
+        }
+        item
+    }
+
     // The next item, for a reader that keeps no fault.
     fn read_item<S: Source>(&mut self, source: &mut S) -> Result<Item, InputFault>
         ensures takes { S.tells → IfOk result (λ item. Takes (left self.old (S.unread source.old)) item (left self.new (S.unread source.new))) }
@@ -83,7 +123,7 @@ impl EntryReader {
         ensures later { S.input_faults source.old ≤ S.input_faults source.new }
         ensures only { S.only_input source.old source.new }
     {
-        loop {
+        'items: loop {
             match self.look() {
                 Look::Entry => return Ok(self.entry_at_hand()?),
                 Look::Limit => return Err(InputFault::TooLong),
@@ -152,7 +192,8 @@ impl EntryReader {
         ensures later { S.input_faults source.old ≤ S.input_faults source.new }
         ensures only { S.only_input source.old source.new }
     {
-        self.window.refill(source)
+        let more = self.window.refill(source)?;
+        Ok(more)
     }
 
     // The item of what is begun where the input ends.
@@ -216,7 +257,7 @@ impl EntryReader {
         ensures only { S.only_input source.old source.new }
     {
         let mut place = from;
-        loop {
+        'skims: loop {
             match self.skim(place) {
                 Skim::Entry => return Ok(Some(self.long_item())),
                 Skim::Skipped => return Ok(None),
@@ -235,6 +276,7 @@ impl EntryReader {
         ensures fresh { IsFresh self.new.window }
         ensures skims { (rest : List ℕ) → Skims self.old from rest result self.new }
         ensures uses { room self.new + length (ahead self.old) ≡ room self.old + length (ahead self.new) }
+        ensures shrinks { room self.new ≤ room self.old }
         ensures count { self.new.count ≡ self.old.count }
         ensures kept { self.new.kept ≡ self.old.kept }
     {
@@ -242,14 +284,14 @@ impl EntryReader {
         let most = bytes.len();
         let scanned = scan(from, bytes);
         if scanned.count == most {
-            self.window.use_to(most);
+            self.window.use_to(scanned.count);
             return if self.window.has_more() {
                 Skim::Limit
             } else {
                 Skim::Nothing(scanned.place)
             };
         }
-        let is_entry = bytes[scanned.count] == b';' && scanned.place.is_open();
+        let is_entry = scanned.place.ends(bytes[scanned.count]);
         self.window.use_to(scanned.count + 1);
         if is_entry {
             Skim::Entry
@@ -272,7 +314,7 @@ impl EntryReader {
 
     // The item of an entry or a comment that leads to a place, where the input ends.
     fn cut_item(&mut self, place: Place, is_too_long: bool) -> Item
-        requires number { self.old.count + 1 + room self.old < 2 ^ 64 }
+        requires number { is_entry place ≡ true → self.old.count + 1 + room self.old < 2 ^ 64 }
         ensures item { result ≡ cut_at place is_too_long (next_number self.old) }
         ensures number { IsNumbered result (next_number self.old) (next_number self.new) }
         ensures window { self.new.window ≡ self.old.window }

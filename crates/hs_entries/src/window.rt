@@ -138,7 +138,7 @@ impl Window {
         requires there { self.now.at < self.now.end }
         ensures { result ≡ ends self.now.place (slice_index self.now.buffer.items self.now.at) }
     {
-        self.buffer[self.at] == b';' && self.place.is_open()
+        self.place.ends(self.buffer[self.at])
     }
 
     // Skips what is begun with the next byte, which leads between two entries.
