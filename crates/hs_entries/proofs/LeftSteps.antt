@@ -356,3 +356,8 @@ module _ (n : ℕ) (from q : Place) (w after : Window) (count : ℕ) (rest : Lis
       let P : Left → Type 0 = λ l. Continues l (left_at n Between [] ((after.room + 1) - 1) (drop (count + 1) (left_of w) ++ rest)) in
       let Q : Left → Type 0 = λ l. Continues (left_at n from long (room_of w) (ahead_of w ++ rest)) l in
       subst Q end (continues_trans _ _ _ on (subst P (sym same) skip))
+
+pub continues_same : (n n' : ℕ) (p : Place) (begun : List ℕ) (room room' : ℕ) (input input' : List ℕ) → n ≡ n' → room ≡ room' → input ≡ input'
+    → Continues (left_at n p begun room input) (left_at n' p begun room' input')
+continues_same n n' p begun room room' input input' n_is room_is input_is =
+    rw (n_is, room_is, input_is) (record { items = refl; whole = refl; room = refl })

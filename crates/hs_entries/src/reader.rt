@@ -182,6 +182,7 @@ impl EntryReader {
         ensures fresh { IsFresh self.old.window → OnOk result (IsFresh self.new.window) }
         ensures begun { OnOk result (begun_of self.new.window ≡ begun_of self.old.window) }
         ensures room { room self.new ≤ room self.old }
+        ensures fresh_room { IsFresh self.old.window → OnOk result (room self.new ≡ room self.old) }
         ensures more { IfOk result (λ more. more ≡ true → Grows self.old self.new) }
         ensures none { IfOk result (λ more. more ≡ false → left_of self.new.window ≡ []) }
         ensures end { S.tells → IfOk result (λ more. more ≡ false → S.unread source.new ≡ []) }
