@@ -1,11 +1,12 @@
 -- What is left of an input, one step after another.
-use Rattle.std.proofs.Common.{◌≡◌, ◌≢◌, ℕ, suc, ◌+◌, ◌-◌, ◌<◌, ◌≤◌, true, false, Bool, List, [], ◌∷◌, ◌++◌, Some, length, take, drop, slice_index, slice_range, length-append, refl, sym, ap, subst, append_assoc, append-nil, ◌∙◌, arith}
+use Rattle.std.proofs.Common.{◌≡◌, ◌≢◌, ℕ, suc, ◌+◌, ◌-◌, ◌<◌, ◌≤◌, true, false, Bool, List, [], ◌∷◌, ◌++◌, Option, Some, None, Result, Ok, Err, IfOk, IfNone, IfSome, length, take, drop, slice_index, slice_range, length-append, refl, sym, ap, subst, append_assoc, append-nil, ◌∙◌, arith}
 use Rattle.std.proofs.Math.Seq.{take-append-add}
 use Rattle.std.proofs.lemmas.List.{take_all, take-take, take-append-drop, drop_more, get_or-take, length-take, length-take-le, length-drop, length_push, length-replicate}
 use Rattle.std.proofs.lemmas.List.Edits.{length-between}
 use Rattle.std.proofs.lemmas.Bool.Decides.{nat_tests}
 use Rattle.hs_entries.specs.declared.item.Item.{Item}
 use Rattle.hs_entries.specs.declared.item.Item.TheVariants.{Entry, Bad, TooLong, End}
+use Rattle.hs_entries.specs.declared.input_fault.InputFault.{InputFault}
 use Rattle.hs_entries.specs.declared.item.TheConstants.{MOST_BYTES}
 use Rattle.hs_entries.specs.declared.place.Place.{Place}
 use Rattle.hs_entries.specs.declared.place.Place.TheVariants.{Between}
@@ -361,3 +362,30 @@ pub continues_same : (n n' : ℕ) (p : Place) (begun : List ℕ) (room room' : �
     → Continues (left_at n p begun room input) (left_at n' p begun room' input')
 continues_same n n' p begun room room' input input' n_is room_is input_is =
     rw (n_is, room_is, input_is) (record { items = refl; whole = refl; room = refl })
+
+-- an entry or a comment of which no further byte can be kept, and to which a byte comes
+pub long_start : (n n' : ℕ) (w : Window) (unread input : List ℕ) (k : ℕ) → IsSound w → length (begun_of w) ≡ MOST_BYTES → input ≡ left_of w ++ unread
+    → 0 < length input → n' ≡ n → k ≡ w.room → Continues (left_at n Between [] (room_of w) (ahead_of w ++ unread)) (left_at n' w.place long k input)
+long_start n n' w unread input k sound full input_is some n_is k_is =
+    let on = long_next n w.place (begun_of w) w.room (left_of w ++ unread) full (rw (← input_is) some) in
+    rw (n_is, k_is, input_is) (continues_trans _ _ _ (window_on n w unread sound) on)
+
+-- and one to which none comes
+pub long_cut : (n m : ℕ) (w after : Window) (unread : List ℕ) → IsSound w → left_of w ≡ [] → length (begun_of w) ≤ MOST_BYTES → unread ≡ [] → ahead_of after ≡ []
+    → room_of after ≡ w.room
+    → Takes (left_at n Between [] (room_of w) (ahead_of w ++ unread)) (cut_at w.place false n) (left_at m Between [] (room_of after) (ahead_of after ++ unread))
+long_cut n m w after unread sound looked short unread_is ahead_is room_is =
+    rw unread_is (cut_at_end_step n m w after sound looked short ahead_is room_is)
+
+-- what holds of a step holds of it behind another
+pub none_on : (a b c : Left) (result : Result (Option Item) InputFault) → Continues a b → IfOk result (λ item. IfNone item (Continues b c))
+    → IfOk result (λ item. IfNone item (Continues a c))
+none_on a b c (Ok None) on then = continues_trans a b c on then
+none_on a b c (Ok (Some i)) on then = tt
+none_on a b c (Err e) on then = tt
+
+pub some_on : (a b c : Left) (result : Result (Option Item) InputFault) → Continues a b → IfOk result (λ item. IfSome item (λ i. Takes b i c))
+    → IfOk result (λ item. IfSome item (λ i. Takes a i c))
+some_on a b c (Ok None) on then = tt
+some_on a b c (Ok (Some i)) on then = continues_takes a b c i on then
+some_on a b c (Err e) on then = tt
