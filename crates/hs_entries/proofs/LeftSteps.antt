@@ -389,3 +389,11 @@ pub some_on : (a b c : Left) (result : Result (Option Item) InputFault) → Cont
 some_on a b c (Ok None) on then = tt
 some_on a b c (Ok (Some i)) on then = continues_takes a b c i on then
 some_on a b c (Err e) on then = tt
+
+-- a window has looked at all bytes that may be used, and another is at hand
+pub limit_beyond : (n : ℕ) (w : Window) (unread : List ℕ) → IsSound w → w.room ≡ 0 → 0 < length (left_of w)
+    → IsBeyond (left_at n Between [] (room_of w) (ahead_of w ++ unread))
+limit_beyond n w unread sound full more =
+    let all = length-append (left_of w) unread in
+    let beyond : IsBeyond (left_at n w.place (begun_of w) w.room (left_of w ++ unread)) = rw full (beyond_limit n w.place (begun_of w) (left_of w ++ unread) (omega arith)) in
+    continues_beyond _ _ (window_on n w unread sound) beyond
