@@ -45,16 +45,20 @@ pub item_of-long : (n : ℕ) (bytes : List ℕ) → MOST_BYTES < length bytes �
 unfolding item_of
 item_of-long n bytes long = grind (arith, nat_tests)
 
-pub item_of-no_text : (n : ℕ) (bytes : List ℕ) → length bytes ≤ MOST_BYTES → (IsUtf8 bytes → ⊥) → item_of n bytes ≡ Bad n
+pub item_of-too_long : (n : ℕ) (bytes : List ℕ) → is_too_long bytes ≡ true → item_of n bytes ≡ TooLong n
+unfolding item_of
+item_of-too_long n bytes long = rw long refl
+
+pub item_of-no_text : (n : ℕ) (bytes : List ℕ) → is_too_long bytes ≡ false → (IsUtf8 bytes → ⊥) → item_of n bytes ≡ Bad n
 unfolding item_of
 item_of-no_text n bytes short bad =
     let no = not_utf8 bytes bad in grind (arith, nat_tests)
 
-pub item_of-no_session : (n : ℕ) (bytes : List ℕ) → length bytes ≤ MOST_BYTES → has_session bytes ≡ false → item_of n bytes ≡ Bad n
+pub item_of-no_session : (n : ℕ) (bytes : List ℕ) → is_too_long bytes ≡ false → has_session bytes ≡ false → item_of n bytes ≡ Bad n
 unfolding item_of
 item_of-no_session n bytes short bad = grind (arith, nat_tests)
 
-pub item_of-entry : (n : ℕ) (bytes entry name text session statement : List ℕ) → length bytes ≤ MOST_BYTES → IsUtf8 bytes → entry ≡ bytes
+pub item_of-entry : (n : ℕ) (bytes entry name text session statement : List ℕ) → is_too_long bytes ≡ false → IsUtf8 bytes → entry ≡ bytes
     → IsSplit entry name text → session ≡ name → statement ≡ text → Entry n session statement (length name + 1) ≡ item_of n bytes
 unfolding item_of
 item_of-entry n bytes entry name text session statement short good same split front back =

@@ -1,7 +1,7 @@
 // What an entry's bytes are.
 ghost use Rattle.std.specs.Prelude.{◌≡◌, ◌&&◌, false, if◌then◌else◌, length, nat_lt, IfOk, IfSome, IfNone};
 ghost use Rattle.std.specs.List.{list_all};
-ghost use Rattle.hs_entries.specs.Entry.{item_of, has_session, IsSplit, is_session as session, is_name_byte as name_byte, is_letter as letter};
+ghost use Rattle.hs_entries.specs.Entry.{item_of, is_too_long as too_long, has_session, IsSplit, is_session as session, is_name_byte as name_byte, is_letter as letter};
 
 use crate::item::{Item, MOST_BYTES, MOST_NAME_BYTES};
 use hs_values::{Chars, Name};
@@ -11,7 +11,7 @@ use std::alloc::{AllocError, Global};
 pub fn read_entry(alloc: Global, number: u64, bytes: &[u8]) -> Result<Item, AllocError>
     ensures { IfOk result (λ item. item ≡ item_of number bytes.now) }
 {
-    if bytes.len() > MOST_BYTES {
+    if is_too_long(bytes) {
         return Ok(Item::TooLong { number });
     }
     let Ok(entry) = std::str::from_utf8(bytes) else {
@@ -26,6 +26,13 @@ pub fn read_entry(alloc: Global, number: u64, bytes: &[u8]) -> Result<Item, Allo
         text: Chars::from_text(alloc, text)?,
         at: session.len() as u32 + 1,
     })
+}
+
+// More bytes than an entry has at most.
+fn is_too_long(bytes: &[u8]) -> bool
+    ensures { result ≡ too_long bytes.now }
+{
+    bytes.len() > MOST_BYTES
 }
 
 // The session's name and the statement, if the entry has such a name and directly a colon.

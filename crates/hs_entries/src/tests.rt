@@ -6,7 +6,7 @@ use std::alloc::{AllocError, Global};
 use std::test::Fail;
 
 // A limit, an input, and the answers up to the end or the first fault.
-const CASES: [(u64, &[u8], &str); 104] = [
+static CASES: [(u64, &[u8], &str); 104] = [
     (999, b"", "end"),
     (999, b" \t\r\n\x0c", "end"),
     (999, b"a: COMMIT;", "1:a@2: COMMIT;|end"),
@@ -129,7 +129,7 @@ const CASES: [(u64, &[u8], &str); 104] = [
 ];
 
 // Longer inputs: a front, a byte that is repeated, and what stands behind, with the answers.
-const LONG_CASES: [(&[u8], u8, usize, &[u8], &str); 14] = [
+static LONG_CASES: [(&[u8], u8, usize, &[u8], &str); 14] = [
     (b"a:", b'x', 65_533, b";b:;", "1:a@2:#65534|2:b@2:;|end"),
     (b"a:", b'x', 65_534, b";b:;", "1:long|2:b@2:;|end"),
     (b" a:", b'x', 65_533, b";b:;", "1:a@2:#65534|2:b@2:;|end"),
@@ -146,8 +146,25 @@ const LONG_CASES: [(&[u8], u8, usize, &[u8], &str); 14] = [
     (b"/*", b';', 65_535, b"", "1:long|end"),
 ];
 
-fn host(alloc: Global, input: Vec<u8>, failing: CallList) -> MemHost {
-    MemHost::new(alloc, Bytes::from_vec(input), failing)
+// A host that gives its input in pieces of this length.
+fn host(alloc: Global, input: Vec<u8>, failing: CallList, piece: usize) -> Result<MemHost, AllocError> {
+    let mut source = MemHost::new(alloc, Bytes::from_vec(input), failing);
+    source.give_in_pieces(vec![in alloc; piece; 1]?);
+    Ok(source)
+}
+
+fn long_input(
+    alloc: Global,
+    front: &[u8],
+    byte: u8,
+    count: usize,
+    back: &[u8],
+) -> Result<Vec<u8>, AllocError> {
+    let mut input = Vec::from_slice(alloc, front)?;
+    let filling = vec![in alloc; byte; count]?;
+    input.extend_from_slice(&filling)?;
+    input.extend_from_slice(back)?;
+    Ok(input)
 }
 
 // Adds the text of an answer, and says whether it's the last one to ask for.
@@ -212,24 +229,20 @@ fn answers(alloc: Global, limit: u64, source: &mut MemHost) -> Result<String, Al
 #[test]
 fn reads_items(rt: HostRuntime) -> Result<(), Fail> {
     let alloc = rt.alloc();
-    for (limit, input, want) in CASES {
+    for (limit, input, want) in &CASES {
         for piece in [100_000, 1, 3] {
-            let mut source = host(alloc, Vec::from_slice(alloc, input)?, CallList::new(alloc));
-            source.give_in_pieces(vec![in alloc; piece]?);
-            let got = answers(alloc, limit, &mut source)?;
-            assert_eq!(rt; got.as_str(), want, "in pieces of {piece}");
+            let input = Vec::from_slice(alloc, input)?;
+            let mut source = host(alloc, input, CallList::new(alloc), piece)?;
+            let got = answers(alloc, *limit, &mut source)?;
+            assert_eq!(rt; got.as_str(), *want, "in pieces of {piece}");
         }
     }
-    for (front, byte, count, back, want) in LONG_CASES {
+    for (front, byte, count, back, want) in &LONG_CASES {
         for piece in [100_000, 4_096, 777] {
-            let mut input = Vec::from_slice(alloc, front)?;
-            let filling = vec![in alloc; byte; count]?;
-            input.extend_from_slice(&filling)?;
-            input.extend_from_slice(back)?;
-            let mut source = host(alloc, input, CallList::new(alloc));
-            source.give_in_pieces(vec![in alloc; piece]?);
+            let input = long_input(alloc, front, *byte, *count, back)?;
+            let mut source = host(alloc, input, CallList::new(alloc), piece)?;
             let got = answers(alloc, 1_000_000, &mut source)?;
-            assert_eq!(rt; got.as_str(), want, "in pieces of {piece}");
+            assert_eq!(rt; got.as_str(), *want, "in pieces of {piece}");
         }
     }
     Ok(())
@@ -240,8 +253,7 @@ fn asks_only_for_what_it_needs(rt: HostRuntime) -> Result<(), Fail> {
     let alloc = rt.alloc();
     let input = Vec::from_slice(alloc, b"a:1;b:2;c:3;")?;
     let failing = CallList::from_vec(vec![in alloc; 6]?);
-    let mut source = host(alloc, input, failing);
-    source.give_in_pieces(vec![in alloc; 1]?);
+    let mut source = host(alloc, input, failing, 1)?;
     let mut reader = EntryReader::new(alloc, MOST_BYTES as u64);
 
     // An item ends at its `;`: no byte behind it is asked for.
