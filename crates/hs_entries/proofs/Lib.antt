@@ -4,3 +4,4 @@ pub mod LeftSteps
 pub mod Looking
 pub mod Sessions
 pub mod Spans
+pub mod Spelled

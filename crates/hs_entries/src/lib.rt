@@ -10,6 +10,7 @@
 mod entry;
 mod input_fault;
 mod item;
+mod laws;
 mod place;
 mod reader;
 mod window;
@@ -19,4 +20,5 @@ mod tests;
 
 pub use input_fault::InputFault;
 pub use item::{Item, MOST_BYTES};
+pub use laws::{entries_run_to_their_semicolon, white_space_and_comments_are_skipped};
 pub use reader::EntryReader;

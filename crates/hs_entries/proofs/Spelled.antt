@@ -1,0 +1,159 @@
+-- How the parts of an entry, and comments before it, lead from one place to another.
+use Rattle.std.proofs.Common.{◌≡◌, ◌≢◌, ℕ, ◌+◌, true, false, Bool, not, ◌==◌, ◌&&◌, ◌||◌, List, [], ◌∷◌, ◌++◌, Some, refl, sym, ap, append_assoc, append-nil, ◌∙◌, arith}
+use Rattle.std.proofs.lemmas.Bool.Decides.{nat_tests}
+use Rattle.hs_entries.specs.declared.item.Item.{Item}
+use Rattle.hs_entries.specs.declared.place.Place.{Place}
+use Rattle.hs_entries.specs.declared.place.Place.TheVariants.{Between, DashBetween, SlashBetween, LineBetween, BlockBetween, StarBetween, Plain, Dash, Slash, Text, Quoted, Line, Block, Star}
+use Rattle.hs_entries.specs.Place.{is_white, behind, next_place, is_open, ends, stops, leads, is_between, is_entry, KeepsPlace}
+use Rattle.hs_entries.specs.Entry.{item_of, cut_item_of}
+use Rattle.hs_entries.specs.Items.{items, items_from, cut_items}
+use Rattle.hs_entries.specs.Parts.{Part, byte, text, name, line, block, spelled, spelling, lacks, lacks_close, is_apart, is_part, last_of, are_parts, begins_entry}
+use Rattle.hs_entries.proofs.Leading.{leads-append, text_keeps, quoted_keeps, line_keeps, line_between_keeps}
+use Rattle.hs_entries.proofs.ItemSteps.{items_from-end, items_from-skip, items_from-leads}
+
+-- one byte that leads on
+leads_byte : (p q : Place) (b : ℕ) (bytes : List ℕ) → stops p b ≡ false → next_place p b ≡ q → leads p (b ∷ bytes) ≡ leads q bytes
+leads_byte p q b bytes on next = rw on (ap (λ (r : Place). leads r bytes) next)
+
+lacks_step : (a b : ℕ) (bytes : List ℕ) → lacks a (b ∷ bytes) ≡ true → (b ≢ a) × (lacks a bytes ≡ true)
+lacks_step a b bytes h = (λ same. grind (arith, nat_tests, h, same), grind (arith, nat_tests, h))
+
+-- bytes that keep a place
+leads_lacks : (p : Place) (a : ℕ) → ((b : ℕ) → b ≢ a → KeepsPlace p b) → (bytes : List ℕ) → lacks a bytes ≡ true → leads p bytes ≡ Some p
+leads_lacks p a keeps [] h = refl
+leads_lacks p a keeps (b ∷ bytes) h =
+    let step = lacks_step a b bytes h in
+    let kept = keeps b step.0 in
+    leads_byte p p b bytes kept.0 kept.1 ∙ leads_lacks p a keeps bytes step.1
+
+-- the end of a text, a quoted name and a `--` comment
+text_leads : (bytes : List ℕ) → lacks 39 bytes ≡ true → leads Text (bytes ++ 39 ∷ []) ≡ Some Plain
+unfolding next_place is_open is_between
+text_leads bytes h = leads-append Text Text bytes (39 ∷ []) (leads_lacks Text 39 (text_keeps Text refl) bytes h) ∙ refl
+
+quoted_leads : (bytes : List ℕ) → lacks 34 bytes ≡ true → leads Quoted (bytes ++ 34 ∷ []) ≡ Some Plain
+unfolding next_place is_open is_between
+quoted_leads bytes h = leads-append Quoted Quoted bytes (34 ∷ []) (leads_lacks Quoted 34 (quoted_keeps Quoted refl) bytes h) ∙ refl
+
+line_leads : (bytes : List ℕ) → lacks 10 bytes ≡ true → leads Line (bytes ++ 10 ∷ []) ≡ Some Plain
+unfolding next_place is_open is_between
+line_leads bytes h = leads-append Line Line bytes (10 ∷ []) (leads_lacks Line 10 (line_keeps Line refl) bytes h) ∙ refl
+
+in_block : Bool → Place
+in_block true = Star
+in_block false = Block
+
+between_block : Bool → Place
+between_block true = StarBetween
+between_block false = BlockBetween
+
+close_step : (star : Bool) (b : ℕ) (bytes : List ℕ) → lacks_close star (b ∷ bytes) ≡ true → ((star && b == 47) ≡ false) × (lacks_close (b == 42) bytes ≡ true)
+close_step star b bytes h = (grind (arith, h), grind (arith, h))
+
+block_byte : (star : Bool) (b : ℕ) → (star && b == 47) ≡ false → (stops (in_block star) b ≡ false) × (next_place (in_block star) b ≡ in_block (b == 42))
+unfolding next_place is_open is_between in_block
+block_byte true b h = grind (arith, nat_tests, h)
+block_byte false b h = grind (arith, nat_tests, h)
+
+between_block_byte : (star : Bool) (b : ℕ) → (star && b == 47) ≡ false → (stops (between_block star) b ≡ false) × (next_place (between_block star) b ≡ between_block (b == 42))
+unfolding next_place is_open is_between between_block
+between_block_byte true b h = grind (arith, nat_tests, h)
+between_block_byte false b h = grind (arith, nat_tests, h)
+
+-- the end of a `/*` comment
+block_leads : (star : Bool) (bytes : List ℕ) → lacks_close star bytes ≡ true → leads (in_block star) (bytes ++ 42 ∷ 47 ∷ []) ≡ Some Plain
+unfolding next_place is_open is_between in_block
+block_leads true [] h = refl
+block_leads false [] h = refl
+block_leads star (b ∷ bytes) h =
+    let step = close_step star b bytes h in
+    let goes = block_byte star b step.0 in
+    leads_byte (in_block star) (in_block (b == 42)) b (bytes ++ 42 ∷ 47 ∷ []) goes.0 goes.1 ∙ block_leads (b == 42) bytes step.1
+
+between_block_leads : (star : Bool) (bytes : List ℕ) → lacks_close star bytes ≡ true → (s : Bool) × (leads (between_block star) bytes ≡ Some (between_block s))
+between_block_leads star [] h = (star, refl)
+between_block_leads star (b ∷ bytes) h =
+    let step = close_step star b bytes h in
+    let goes = between_block_byte star b step.0 in
+    let (s, later) = between_block_leads (b == 42) bytes step.1 in
+    (s, leads_byte (between_block star) (between_block (b == 42)) b bytes goes.0 goes.1 ∙ later)
+
+-- what is skipped before an entry
+pub white_skipped : (n w : ℕ) (bytes : List ℕ) → is_white w ≡ true → items n (w ∷ bytes) ≡ items n bytes
+unfolding next_place is_open
+white_skipped n w bytes h =
+    let on : ends Between w ≡ false = grind (arith, nat_tests, h) in
+    let back : next_place Between w ≡ Between = rw h refl in
+    items_from-skip cut_items n Between [] w bytes on back
+
+line_between_leads : (bytes : List ℕ) → lacks 10 bytes ≡ true → leads Between (45 ∷ 45 ∷ bytes) ≡ Some LineBetween
+unfolding next_place is_open is_between
+line_between_leads bytes h = leads_lacks LineBetween 10 (line_between_keeps LineBetween refl) bytes h
+
+pub line_skipped : (n : ℕ) (comment bytes : List ℕ) → lacks 10 comment ≡ true → items n (45 ∷ 45 ∷ comment ++ 10 ∷ bytes) ≡ items n bytes
+unfolding next_place is_open
+line_skipped n comment bytes h =
+    items_from-leads cut_items n Between LineBetween [] (45 ∷ 45 ∷ comment) (10 ∷ bytes) (line_between_leads comment h)
+    ∙ items_from-skip cut_items n LineBetween (45 ∷ 45 ∷ comment) 10 bytes refl refl
+
+pub last_line_skipped : (n : ℕ) (comment : List ℕ) → lacks 10 comment ≡ true → items n (45 ∷ 45 ∷ comment) ≡ []
+unfolding is_entry
+last_line_skipped n comment h =
+    ap (λ (l : List ℕ). items n l) (sym (append-nil (45 ∷ 45 ∷ comment)))
+    ∙ items_from-leads cut_items n Between LineBetween [] (45 ∷ 45 ∷ comment) [] (line_between_leads comment h)
+
+block_begins : (bytes : List ℕ) → leads Between (47 ∷ 42 ∷ bytes) ≡ leads BlockBetween bytes
+unfolding next_place is_open is_between
+block_begins bytes = refl
+
+star_leads : (s : Bool) → leads (between_block s) (42 ∷ []) ≡ Some StarBetween
+unfolding next_place is_open is_between between_block
+star_leads true = refl
+star_leads false = refl
+
+pub block_skipped : (n : ℕ) (comment bytes : List ℕ) → lacks_close false comment ≡ true → items n (47 ∷ 42 ∷ comment ++ 42 ∷ 47 ∷ bytes) ≡ items n bytes
+unfolding next_place is_open between_block
+block_skipped n comment bytes h =
+    let (s, on) = between_block_leads false comment h in
+    let star : leads Between ((47 ∷ 42 ∷ comment) ++ 42 ∷ []) ≡ Some StarBetween =
+      leads-append Between (between_block s) (47 ∷ 42 ∷ comment) (42 ∷ []) (block_begins comment ∙ on) ∙ star_leads s in
+    ap (λ (l : List ℕ). items n l) (sym (append_assoc (47 ∷ 42 ∷ comment) (42 ∷ []) (47 ∷ bytes)))
+    ∙ items_from-leads cut_items n Between StarBetween [] ((47 ∷ 42 ∷ comment) ++ 42 ∷ []) (47 ∷ bytes) star
+    ∙ items_from-skip cut_items n StarBetween ((47 ∷ 42 ∷ comment) ++ 42 ∷ []) 47 bytes refl refl
+
+between_block_entry : (n : ℕ) (s : Bool) (begun : List ℕ) → cut_items n (between_block s) begun ≡ cut_item_of n begun ∷ []
+unfolding is_entry between_block
+between_block_entry n true begun = refl
+between_block_entry n false begun = refl
+
+pub unclosed_begins : (n : ℕ) (comment : List ℕ) → lacks_close false comment ≡ true → items n (47 ∷ 42 ∷ comment) ≡ cut_item_of n (47 ∷ 42 ∷ comment) ∷ []
+unfolding between_block
+unclosed_begins n comment h =
+    let (s, on) = between_block_leads false comment h in
+    ap (λ (l : List ℕ). items n l) (sym (append-nil (47 ∷ 42 ∷ comment)))
+    ∙ items_from-leads cut_items n Between (between_block s) [] (47 ∷ 42 ∷ comment) [] (block_begins comment ∙ on)
+    ∙ between_block_entry n s (47 ∷ 42 ∷ comment)
+
+-- From the place a byte that begins no comment with the one before it leads on as it does in an entry.
+record IsLoose (a : ℕ) (p : Place) : Type 0 where
+  ends : (b : ℕ) → ends p b ≡ (b == 59)
+  next : (b : ℕ) → is_apart a b ≡ true → next_place p b ≡ behind b
+  entry : is_entry p ≡ true
+
+loose_behind : (a : ℕ) → (a == 39) ≡ false → (a == 34) ≡ false → IsLoose a (behind a)
+unfolding behind next_place is_open is_entry
+loose_behind a no_text no_name =
+    record {
+      ends = λ b. grind (arith, nat_tests, no_text, no_name);
+      next = λ b h. grind (arith, nat_tests, no_text, no_name, h);
+      entry = grind (arith, nat_tests, no_text, no_name);
+    }
+
+loose_first : (a : ℕ) → is_white a ≡ false → (a == 39) ≡ false → (a == 34) ≡ false → IsLoose a (next_place Between a)
+unfolding behind next_place is_open is_entry
+loose_first a black no_text no_name =
+    record {
+      ends = λ b. grind (arith, nat_tests, black, no_text, no_name);
+      next = λ b h. grind (arith, nat_tests, black, no_text, no_name, h);
+      entry = grind (arith, nat_tests, black, no_text, no_name);
+    }
