@@ -33,11 +33,6 @@ module _ (bytes : List ℕ) (r : Option (Bor (List ℕ) × Bor (List ℕ))) (spl
       let lacks : list_any is_colon bytes ≡ false = list_any-place is_colon bytes ∙ no in
       grind (arith, lacks)
 
--- a session's name has at most 32 bytes
-pub session_short : (bytes : List ℕ) → is_session bytes ≡ true → length bytes ≤ MOST_NAME_BYTES
-session_short [] h = omega arith
-session_short (b ∷ bs) h = grind (arith, nat_tests)
-
 not_utf8 : (bytes : List ℕ) → (IsUtf8 bytes → ⊥) → is_utf8 bytes ≡ false
 not_utf8 bytes bad = elim (is_utf8 bytes) as (λ v. is_utf8 bytes ≡ v → v ≡ false) [ true ↦ λ good. absurd (bad (IsUtf8-from_is_utf8 bytes good)) | false ↦ λ _. refl ] refl
 

@@ -60,3 +60,20 @@ begins_entry (text bytes) = true
 begins_entry (name bytes) = true
 begins_entry (line bytes) = false
 begins_entry (block bytes) = false
+
+-- the parts of an entry, of which this is the first
+abbrev pub is_entry_of : Part → List Part → Bool
+is_entry_of first parts = begins_entry first && are_parts 0 (first ∷ parts)
+
+-- a part without what ends it
+abbrev pub unclosed : Part → List ℕ
+unclosed (byte b) = b ∷ []
+unclosed (text bytes) = 39 ∷ bytes
+unclosed (name bytes) = 34 ∷ bytes
+unclosed (line bytes) = 45 ∷ 45 ∷ bytes
+unclosed (block bytes) = 47 ∷ 42 ∷ bytes
+
+-- the last byte of some parts that may begin a comment with the next one, where this one stands before them
+abbrev pub last_of_all : ℕ → List Part → ℕ
+last_of_all a [] = a
+last_of_all a (part ∷ parts) = last_of_all (last_of part) parts

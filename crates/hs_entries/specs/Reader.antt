@@ -62,7 +62,7 @@ left_items r rest = items_of (left r rest)
 abbrev pub left_whole : EntryReader → List ℕ → List Item
 left_whole r rest = whole_of (left r rest)
 
--- an item uses bytes, and the end uses none
+-- an item uses bytes, and the end may use none
 abbrev pub Shrinks : Item → ℕ → ℕ → Type 0
 Shrinks End before now = now ≤ before
 Shrinks item before now = now < before

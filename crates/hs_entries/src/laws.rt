@@ -2,7 +2,7 @@
 ghost use Rattle.std.specs.Prelude.{◌≡◌, ℕ, ◌+◌, true, false, List, [], ◌∷◌, ◌++◌};
 ghost use Rattle.hs_entries.specs.Entry.{item_of, cut_item_of};
 ghost use Rattle.hs_entries.specs.Items.{items};
-ghost use Rattle.hs_entries.specs.Parts.{Part, spelled, spelling, lacks, lacks_close, is_part, last_of, are_parts, begins_entry};
+ghost use Rattle.hs_entries.specs.Parts.{Part, spelling, lacks, lacks_close, is_part, last_of_all, is_entry_of, unclosed};
 ghost use Rattle.hs_entries.specs.Place.{is_white};
 
 /// Before an entry white space is skipped, and so are a `--` comment up to its line feed or the end of the
@@ -16,11 +16,13 @@ pub fn white_space_and_comments_are_skipped()
 {}
 
 /// An entry runs to the first `;` that stands outside its texts, quoted names and comments, or to the end of
-/// the input.
+/// the input. A text, a quoted name or a comment of it that isn't closed also runs to the end of the input.
 pub fn entries_run_to_their_semicolon()
-    ensures whole { (n : ℕ) (first : Part) (parts : List Part) (bytes : List ℕ) → begins_entry first ≡ true → are_parts 0 (first ∷ parts) ≡ true →
+    ensures whole { (n : ℕ) (first : Part) (parts : List Part) (bytes : List ℕ) → is_entry_of first parts ≡ true →
         items n (spelling (first ∷ parts) ++ 59 ∷ bytes) ≡ item_of n (spelling (first ∷ parts) ++ 59 ∷ []) ∷ items (n + 1) bytes }
     ensures alone { (n : ℕ) (bytes : List ℕ) → items n (59 ∷ bytes) ≡ item_of n (59 ∷ []) ∷ items (n + 1) bytes }
-    ensures cut { (n : ℕ) (first : Part) (parts : List Part) → begins_entry first ≡ true → are_parts 0 (first ∷ parts) ≡ true →
+    ensures cut { (n : ℕ) (first : Part) (parts : List Part) → is_entry_of first parts ≡ true →
         items n (spelling (first ∷ parts)) ≡ cut_item_of n (spelling (first ∷ parts)) ∷ [] }
+    ensures unclosed { (n : ℕ) (first : Part) (parts : List Part) (part : Part) → is_entry_of first parts ≡ true → is_part (last_of_all 0 (first ∷ parts)) part ≡ true →
+        items n (spelling (first ∷ parts) ++ unclosed part) ≡ cut_item_of n (spelling (first ∷ parts) ++ unclosed part) ∷ [] }
 {}

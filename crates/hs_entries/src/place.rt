@@ -1,5 +1,5 @@
 // Where in the input a byte stands.
-ghost use Rattle.std.specs.Prelude.{◌≡◌, ◌≢◌, ℕ, ◌+◌, ◌<◌, ◌≤◌, IsTrue, Some, true, false, length, take, slice_index};
+ghost use Rattle.std.specs.Prelude.{◌≡◌, ◌≢◌, ℕ, ◌+◌, ◌<◌, ◌≤◌, IsTrue, Some, true, length, take, slice_index};
 ghost use Rattle.hs_entries.specs.Place as spec;
 
 /// Where in the input a byte stands, by the bytes before it.

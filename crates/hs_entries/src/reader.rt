@@ -1,5 +1,5 @@
 // Reads the items of the input.
-ghost use Rattle.std.specs.Prelude.{◌≡◌, true, false, ℕ, ◌+◌, ◌-◌, ◌<◌, ◌≤◌, ◌^◌, List, [], ◌∷◌, ◌++◌, length, take, None, Some, IfOk, IfErr, IfSome, IfNone, OnOk, IsErrOf, MatchOption};
+ghost use Rattle.std.specs.Prelude.{◌≡◌, true, false, ℕ, ◌+◌, ◌-◌, ◌<◌, ◌≤◌, ◌^◌, List, [], ◌++◌, length, None, Some, IfOk, IfErr, IfSome, IfNone, OnOk, IsErrOf, MatchOption};
 ghost use Rattle.std.proofs.Props.{props};
 ghost use Rattle.hs_host.specs.Host.{Rose};
 ghost use Rattle.hs_entries.specs.Place.{is_entry};
