@@ -1,8 +1,7 @@
 -- How the items of bytes follow from those of the rest.
-use Rattle.std.proofs.Common.{◌≡◌, ◌≢◌, ℕ, ◌+◌, ◌-◌, ◌<◌, ◌≤◌, true, false, Bool, List, [], ◌∷◌, ◌++◌, Some, length, take, drop, slice_range, refl, sym, ap, append_assoc, append-nil, ◌∙◌, arith}
+use Rattle.std.proofs.Common.{◌≡◌, ℕ, ◌+◌, ◌-◌, true, false, List, [], ◌∷◌, ◌++◌, Some, length, take, refl, sym, ap, append_assoc, append-nil, ◌∙◌, arith}
 use Rattle.std.proofs.Math.Seq.{take-append-add}
 use Rattle.std.proofs.lemmas.List.Edits.{length-between}
-use Rattle.std.proofs.lemmas.Grind.{common_steps}
 use Rattle.hs_entries.specs.declared.item.Item.{Item}
 use Rattle.hs_entries.specs.declared.place.Place.{Place}
 use Rattle.hs_entries.specs.declared.place.Place.TheVariants.{Between}
@@ -51,15 +50,15 @@ module _ (last : ℕ → Place → List ℕ → List Item) (n : ℕ) where
       ap (λ (r : Place). items_from last n r begun ys) same ∙ ap (λ (l : List ℕ). items_from last n Between l ys) (fresh same)
   items_from-passes p begun (x ∷ xs) ys h fresh =
       let step = passes_step p Between x xs h in
-      elim (is_between (next_place p x)) as (λ v. is_between (next_place p x) ≡ v → items_from last n p begun (x ∷ xs ++ ys) ≡ items_from last n Between [] ys)
-        [ true ↦ λ back.
+      elim (is_between (next_place p x)) as (λ v. is_between (next_place p x) ≡ v → items_from last n p begun (x ∷ xs ++ ys) ≡ items_from last n Between [] ys) [
+        | true ↦ λ back.
             let place = between_is (next_place p x) back in
             items_from-skip p begun x (xs ++ ys) step.0 place ∙ items_from-passes Between [] xs ys (ap (λ (r : Place). passes r xs) (sym place) ∙ step.1) (λ _. refl)
         | false ↦ λ on.
             let goes : stops p x ≡ false = grind (arith, step.0, on) in
             items_from-more p begun x (xs ++ ys) goes
             ∙ items_from-passes (next_place p x) (begun ++ x ∷ []) xs ys step.1 (λ is. let back = ap is_between is ∙ is_between-Between in cc)
-        ] refl
+      ] refl
 
   -- from what a window has looked at the items are those from where it stands
   pub items_from-passed : (skipped begun rest : List ℕ) (p : Place) → passes Between skipped ≡ Some Between → leads Between begun ≡ Some p

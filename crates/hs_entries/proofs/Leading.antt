@@ -1,5 +1,5 @@
 -- How bytes lead from one place to another.
-use Rattle.std.proofs.Common.{◌≡◌, ◌≢◌, ℕ, ◌+◌, ◌<◌, ◌≤◌, true, false, Bool, List, [], ◌∷◌, ◌++◌, Option, Some, None, length, take, drop, slice_index, slice_range, refl, sym, ap, ◌∙◌, arith}
+use Rattle.std.proofs.Common.{◌≡◌, ◌≢◌, ℕ, ◌+◌, ◌<◌, ◌≤◌, true, false, List, [], ◌∷◌, ◌++◌, Some, length, take, drop, slice_index, slice_range, refl, sym, ap, ◌∙◌, arith}
 use Rattle.std.proofs.lemmas.List.{take_more}
 use Rattle.std.proofs.Math.Seq.{take-add}
 use Rattle.hs_entries.proofs.Spans.{span-append, span_one, take-span}
@@ -83,9 +83,9 @@ pub passes_span : (p : Place) (xs : List ℕ) (i j k : ℕ) → passes Between (
 passes_span p xs i j k first then low high inside on back =
     let last : passes p (slice_index xs k ∷ []) ≡ Some Between = grind (arith, on, back) in
     let parts : slice_range xs i j ++ (slice_range xs j k ++ slice_index xs k ∷ []) ≡ slice_range xs i (k + 1) =
-      ap (λ (l : List ℕ). slice_range xs i j ++ (slice_range xs j k ++ l)) (sym (span_one xs k inside))
-      ∙ ap (λ (l : List ℕ). slice_range xs i j ++ l) (span-append xs j k (k + 1) high (omega arith))
-      ∙ span-append xs i j (k + 1) low (omega arith) in
+    ap (λ (l : List ℕ). slice_range xs i j ++ (slice_range xs j k ++ l)) (sym (span_one xs k inside))
+    ∙ ap (λ (l : List ℕ). slice_range xs i j ++ l) (span-append xs j k (k + 1) high (omega arith))
+    ∙ span-append xs i j (k + 1) low (omega arith) in
     ap (λ (l : List ℕ). passes Between l) (sym parts)
     ∙ passes-append Between Between (slice_range xs i j) (slice_range xs j k ++ slice_index xs k ∷ []) first
     ∙ passes-append Between p (slice_range xs j k) (slice_index xs k ∷ []) (passes_from_leads Between p (slice_range xs j k) then)
@@ -107,14 +107,14 @@ is_between-Between = refl
 
 pub leads_step : (p q : Place) (b : ℕ) (xs : List ℕ) → leads p (b ∷ xs) ≡ Some q → (stops p b ≡ false) × (leads (next_place p b) xs ≡ Some q)
 leads_step p q b xs h =
-    elim (stops p b) as (λ v. stops p b ≡ v → (stops p b ≡ false) × (leads (next_place p b) xs ≡ Some q))
-      [ true ↦ λ is. absurd (grind (arith, h, is))
+    elim (stops p b) as (λ v. stops p b ≡ v → (stops p b ≡ false) × (leads (next_place p b) xs ≡ Some q)) [
+      | true ↦ λ is. absurd (grind (arith, h, is))
       | false ↦ λ is. (is, grind (arith, h, is))
-      ] refl
+    ] refl
 
 pub passes_step : (p q : Place) (b : ℕ) (xs : List ℕ) → passes p (b ∷ xs) ≡ Some q → (ends p b ≡ false) × (passes (next_place p b) xs ≡ Some q)
 passes_step p q b xs h =
-    elim (ends p b) as (λ v. ends p b ≡ v → (ends p b ≡ false) × (passes (next_place p b) xs ≡ Some q))
-      [ true ↦ λ is. absurd (grind (arith, h, is))
+    elim (ends p b) as (λ v. ends p b ≡ v → (ends p b ≡ false) × (passes (next_place p b) xs ≡ Some q)) [
+      | true ↦ λ is. absurd (grind (arith, h, is))
       | false ↦ λ is. (is, grind (arith, h, is))
-      ] refl
+    ] refl

@@ -1,7 +1,7 @@
 -- What is left of an input, one step after another.
-use Rattle.std.proofs.Common.{◌≡◌, ◌≢◌, ℕ, suc, ◌+◌, ◌-◌, ◌<◌, ◌≤◌, true, false, Bool, List, [], ◌∷◌, ◌++◌, Option, Some, None, Result, Ok, Err, IfOk, IfNone, IfSome, length, take, drop, slice_index, slice_range, length-append, refl, sym, ap, subst, append_assoc, append-nil, ◌∙◌, arith}
+use Rattle.std.proofs.Common.{◌≡◌, ℕ, suc, ◌+◌, ◌-◌, ◌<◌, ◌≤◌, true, false, Bool, List, [], ◌∷◌, ◌++◌, Option, Some, None, Result, Ok, Err, IfOk, IfNone, IfSome, length, take, drop, slice_index, slice_range, length-append, refl, sym, ap, subst, append_assoc, append-nil, ◌∙◌, arith}
 use Rattle.std.proofs.Math.Seq.{take-append-add}
-use Rattle.std.proofs.lemmas.List.{take_all, take-take, take-append-drop, drop_more, get_or-take, length-take, length-take-le, length-drop, length_push, length-replicate}
+use Rattle.std.proofs.lemmas.List.{take-take, take-append-drop, drop_more, get_or-take, length-take, length-take-le, length-drop, length_push, length-replicate}
 use Rattle.std.proofs.lemmas.List.Edits.{length-between}
 use Rattle.std.proofs.lemmas.Bool.Decides.{nat_tests}
 use Rattle.hs_entries.specs.declared.item.Item.{Item}
@@ -10,12 +10,12 @@ use Rattle.hs_entries.specs.declared.input_fault.InputFault.{InputFault}
 use Rattle.hs_entries.specs.declared.item.TheConstants.{MOST_BYTES}
 use Rattle.hs_entries.specs.declared.place.Place.{Place}
 use Rattle.hs_entries.specs.declared.place.Place.TheVariants.{Between}
-use Rattle.hs_entries.specs.Place.{next_place, ends, stops, leads, is_between, is_entry}
-use Rattle.hs_entries.specs.Entry.{item_of, cut_item_of, is_too_long, has_session}
+use Rattle.hs_entries.specs.Place.{next_place, ends, stops, leads, is_entry}
+use Rattle.hs_entries.specs.Entry.{item_of, is_too_long}
 use Rattle.hs_entries.specs.Items.{items_from, cut_items, no_items}
-use Rattle.hs_entries.specs.Left.{Left, items_of, whole_of, RunsOut, IsBeyond, TakesFirst, TakesWhole, IsNumbered, KeepsRoom, Takes, Continues, long}
+use Rattle.hs_entries.specs.Left.{Left, items_of, whole_of, RunsOut, IsBeyond, TakesFirst, TakesWhole, IsNumbered, Takes, Continues, long}
 use Rattle.hs_entries.specs.Reader.{cut_at, Shrinks}
-use Rattle.hs_entries.proofs.ItemSteps.{items_from-end, items_from-skip, items_from-more, items_from-leads, items_from-window, items_from-within}
+use Rattle.hs_entries.proofs.ItemSteps.{items_from-end, items_from-skip, items_from-leads, items_from-window, items_from-within}
 use Rattle.hs_entries.specs.declared.window.Window.{Window}
 use Rattle.hs_entries.specs.Window.{begun_of, left_of, ahead_of, room_of, IsSound, IsAtEnd, IsFresh}
 use Rattle.hs_entries.proofs.Leading.{stop_leads}
@@ -75,7 +75,7 @@ ends_step n p begun room b ys is some =
     record {
       first = takes_first item n _ _ number (items_from-end cut_items n p begun b ys is);
       whole = λ _. takes_whole item n _ _ number
-        (ap (λ (k : ℕ). items_from no_items n p begun (take k (b ∷ ys))) one ∙ items_from-end no_items n p begun b (take (room - 1) ys) is);
+          (ap (λ (k : ℕ). items_from no_items n p begun (take k (b ∷ ys))) one ∙ items_from-end no_items n p begun b (take (room - 1) ys) is);
       room = omega arith;
       end = λ h. absurd (not_end item n number h);
     }
@@ -123,11 +123,11 @@ cut_step n m p begun room too_long is =
       room = refl;
       end = λ _. refl;
     }
-    where
-      cut_first : (v : Bool) → is_entry p ≡ v → (w : Bool) → is_too_long begun ≡ w → TakesFirst (items_of (left_at n p begun room [])) (cut_at p w n) (items_of (left_at m Between [] room []))
-      cut_first true h true k = rw h (ap (λ (i : Item). i ∷ []) (cut_item_of-long n begun k) ∙ ap (λ (l : List Item). TooLong n ∷ l) (sym (no_cut m)))
-      cut_first true h false k = rw h (ap (λ (i : Item). i ∷ []) (cut_item_of-short n begun k) ∙ ap (λ (l : List Item). Bad n ∷ l) (sym (no_cut m)))
-      cut_first false h w k = rw h refl
+  where
+    cut_first : (v : Bool) → is_entry p ≡ v → (w : Bool) → is_too_long begun ≡ w → TakesFirst (items_of (left_at n p begun room [])) (cut_at p w n) (items_of (left_at m Between [] room []))
+    cut_first true h true k = rw h (ap (λ (i : Item). i ∷ []) (cut_item_of-long n begun k) ∙ ap (λ (l : List Item). TooLong n ∷ l) (sym (no_cut m)))
+    cut_first true h false k = rw h (ap (λ (i : Item). i ∷ []) (cut_item_of-short n begun k) ∙ ap (λ (l : List Item). Bad n ∷ l) (sym (no_cut m)))
+    cut_first false h w k = rw h refl
 
 -- Of a front that is too long only that is told.
 module _ (last : ℕ → Place → List ℕ → List Item) (least : ℕ) (high : MOST_BYTES ≤ least)
@@ -216,13 +216,13 @@ entry_step n w after item rest sound at_end item_is ahead_is fresh room_is =
     let more = slice_range w.buffer.items (w.at + 1) w.end in
     let next = left_of-next w sound at_end.next in
     continues_takes _ (left_at n w.place (begun_of w) w.room (left_of w ++ rest)) _ item (window_on n w rest sound)
-      (takes_at n (n + 1) w.place (begun_of w) (left_of w ++ rest) (byte ∷ (more ++ rest)) (ahead_of after ++ rest) (more ++ rest) w.room (room_of after) (w.room - 1) item
-        (item_of n (begun_of w ++ byte ∷ []))
-        (ap (λ (l : List ℕ). l ++ rest) next)
-        (ap (λ (l : List ℕ). l ++ rest) (ahead_is ∙ ap (λ (l : List ℕ). drop 1 l) next))
-        (let has = fresh_room after fresh in omega (arith, room_is))
-        item_is
-        (ends_step n w.place (begun_of w) w.room byte (more ++ rest) at_end.ends at_end.room))
+    (takes_at n (n + 1) w.place (begun_of w) (left_of w ++ rest) (byte ∷ (more ++ rest)) (ahead_of after ++ rest) (more ++ rest) w.room (room_of after) (w.room - 1) item
+    (item_of n (begun_of w ++ byte ∷ []))
+    (ap (λ (l : List ℕ). l ++ rest) next)
+    (ap (λ (l : List ℕ). l ++ rest) (ahead_is ∙ ap (λ (l : List ℕ). drop 1 l) next))
+    (let has = fresh_room after fresh in omega (arith, room_is))
+    item_is
+    (ends_step n w.place (begun_of w) w.room byte (more ++ rest) at_end.ends at_end.room))
 
 -- a window has read more
 pub refill_on : (n : ℕ) (w after : Window) (unread unread' : List ℕ) → IsSound w → IsSound after → left_of w ≡ [] → begun_of after ≡ begun_of w
@@ -230,10 +230,10 @@ pub refill_on : (n : ℕ) (w after : Window) (unread unread' : List ℕ) → IsS
     → Continues (left_at n Between [] (room_of w) (ahead_of w ++ unread)) (left_at n Between [] (room_of after) (ahead_of after ++ unread'))
 refill_on n w after unread unread' sound sound' looked begun_is place_is room_is bytes =
     let same : left_at n w.place (begun_of w) w.room (left_of w ++ unread) ≡ left_at n after.place (begun_of after) after.room (left_of after ++ unread') =
-      rw (begun_is, place_is, room_is, bytes, looked) refl in
+    rw (begun_is, place_is, room_is, bytes, looked) refl in
     continues_trans _ (left_at n w.place (begun_of w) w.room (left_of w ++ unread)) _ (window_on n w unread sound)
-      (let P : Left → Type 0 = λ l. Continues l (left_at n Between [] (room_of after) (ahead_of after ++ unread')) in
-        subst P (sym same) (continues_sym _ _ (window_on n after unread' sound')))
+    (let P : Left → Type 0 = λ l. Continues l (left_at n Between [] (room_of after) (ahead_of after ++ unread')) in
+    subst P (sym same) (continues_sym _ _ (window_on n after unread' sound')))
 
 pub refill_grows : (w after : Window) → IsSound w → IsSound after → left_of w ≡ [] → after.room ≡ w.room → 0 < length (left_of after)
     → room_of after + length (ahead_of w) < room_of w + length (ahead_of after)
@@ -250,11 +250,11 @@ begun_some p (x ∷ xs) h entry = omega arith
 
 pub cut_shrinks : (p : Place) (too_long : Bool) (n before now : ℕ) → (is_entry p ≡ true → now < before) → now ≤ before → Shrinks (cut_at p too_long n) before now
 cut_shrinks p too_long n before now some all = go (is_entry p) refl too_long
-    where
-      go : (v : Bool) → is_entry p ≡ v → (w : Bool) → Shrinks (cut_at p w n) before now
-      go true h true = rw h (some h)
-      go true h false = rw h (some h)
-      go false h w = rw h all
+  where
+    go : (v : Bool) → is_entry p ≡ v → (w : Bool) → Shrinks (cut_at p w n) before now
+    go true h true = rw h (some h)
+    go true h false = rw h (some h)
+    go false h w = rw h all
 
 -- a window has looked at all bytes, and the input ends
 pub cut_at_end_step : (n m : ℕ) (w after : Window) → IsSound w → left_of w ≡ [] → length (begun_of w) ≤ MOST_BYTES
@@ -264,8 +264,8 @@ cut_at_end_step n m w after sound looked short ahead_is room_is =
     let at_end : left_of w ++ [] ≡ [] = append-nil (left_of w) ∙ looked in
     let left_over : ahead_of after ++ [] ≡ [] = append-nil (ahead_of after) ∙ ahead_is in
     continues_takes _ (left_at n w.place (begun_of w) w.room (left_of w ++ [])) _ (cut_at w.place false n) (window_on n w [] sound)
-      (takes_at n m w.place (begun_of w) (left_of w ++ []) [] (ahead_of after ++ []) [] w.room (room_of after) w.room (cut_at w.place false n) (cut_at w.place false n)
-        at_end left_over room_is refl (cut_step n m w.place (begun_of w) w.room false (too_long_false (begun_of w) short)))
+    (takes_at n m w.place (begun_of w) (left_of w ++ []) [] (ahead_of after ++ []) [] w.room (room_of after) w.room (cut_at w.place false n) (cut_at w.place false n)
+    at_end left_over room_is refl (cut_step n m w.place (begun_of w) w.room false (too_long_false (begun_of w) short)))
 
 pub passed_some : (w : Window) → IsSound w → is_entry w.place ≡ true → w.room < room_of w
 passed_some w sound entry =
@@ -285,9 +285,9 @@ skim_on n from q left rest room k count h within room_is =
     let front : take count (take room left) ≡ take count left = take-take count room left (omega arith) in
     let size : length (take count left) ≡ count = length-take-le count left (omega arith) in
     let all : left ++ rest ≡ take count left ++ (drop count left ++ rest) =
-      ap (λ (l : List ℕ). l ++ rest) (sym (take-append-drop count left)) ∙ append_assoc (take count left) (drop count left) rest in
+    ap (λ (l : List ℕ). l ++ rest) (sym (take-append-drop count left)) ∙ append_assoc (take count left) (drop count left) rest in
     let start : left_at n from long room (left ++ rest) ≡ left_at n from long (length (take count left) + k) (take count left ++ (drop count left ++ rest)) =
-      ap (λ (i : ℕ). left_at n from long i (left ++ rest)) (omega (arith, size)) ∙ ap (λ (l : List ℕ). left_at n from long (length (take count left) + k) l) all in
+    ap (λ (i : ℕ). left_at n from long i (left ++ rest)) (omega (arith, size)) ∙ ap (λ (l : List ℕ). left_at n from long (length (take count left) + k) l) all in
     let leads_all : leads from (take count left) ≡ Some q = ap (λ (l : List ℕ). leads from l) (sym front) ∙ h in
     let grown = length-append long (take count left) in
     let on = leads_on n from q long (take count left) (drop count left ++ rest) k leads_all in
@@ -329,15 +329,15 @@ module _ (n : ℕ) (from q : Place) (w after : Window) (count : ℕ) (rest : Lis
   skim_entry inside ahead_is room_is is =
       let byte = slice_index (take w.room (left_of w)) count in
       let on : Continues (left_at n from long (room_of w) (ahead_of w ++ rest)) (left_at n q long (after.room + 1) (drop count (left_of w) ++ rest)) =
-        rw (fresh_room w fresh, fresh_ahead w fresh) (skim_on n from q (left_of w) rest w.room (after.room + 1) count h (omega arith) (omega (arith, room_is))) in
+      rw (fresh_room w fresh, fresh_ahead w fresh) (skim_on n from q (left_of w) rest w.room (after.room + 1) count h (omega arith) (omega (arith, room_is))) in
       let more = length_push long byte in
       continues_takes _ _ _ _ on (takes_at n (n + 1) q long (drop count (left_of w) ++ rest) (byte ∷ (drop (count + 1) (left_of w) ++ rest)) (ahead_of after ++ rest)
-        (drop (count + 1) (left_of w) ++ rest) (after.room + 1) (room_of after) ((after.room + 1) - 1) (TooLong n) (item_of n (long ++ byte ∷ []))
-        (ap (λ (l : List ℕ). l ++ rest) (skim_byte (left_of w) w.room count inside))
-        (ap (λ (l : List ℕ). l ++ rest) ahead_is)
-        (let has = fresh_room after fresh' in omega arith)
-        (sym (item_of-long n (long ++ byte ∷ []) (omega (arith, length-long))))
-        (ends_step n q long (after.room + 1) byte (drop (count + 1) (left_of w) ++ rest) is (omega arith)))
+      (drop (count + 1) (left_of w) ++ rest) (after.room + 1) (room_of after) ((after.room + 1) - 1) (TooLong n) (item_of n (long ++ byte ∷ []))
+      (ap (λ (l : List ℕ). l ++ rest) (skim_byte (left_of w) w.room count inside))
+      (ap (λ (l : List ℕ). l ++ rest) ahead_is)
+      (let has = fresh_room after fresh' in omega arith)
+      (sym (item_of-long n (long ++ byte ∷ []) (omega (arith, length-long))))
+      (ends_step n q long (after.room + 1) byte (drop (count + 1) (left_of w) ++ rest) is (omega arith)))
 
   -- the comment ends
   pub skim_skipped : count < length (take w.room (left_of w)) → ahead_of after ≡ drop (count + 1) (left_of w) → after.room + (count + 1) ≡ w.room
@@ -346,14 +346,14 @@ module _ (n : ℕ) (from q : Place) (w after : Window) (count : ℕ) (rest : Lis
   skim_skipped inside ahead_is room_is goes stop =
       let byte = slice_index (take w.room (left_of w)) count in
       let on : Continues (left_at n from long (room_of w) (ahead_of w ++ rest)) (left_at n q long (after.room + 1) (drop count (left_of w) ++ rest)) =
-        rw (fresh_room w fresh, fresh_ahead w fresh) (skim_on n from q (left_of w) rest w.room (after.room + 1) count h (omega arith) (omega (arith, room_is))) in
+      rw (fresh_room w fresh, fresh_ahead w fresh) (skim_on n from q (left_of w) rest w.room (after.room + 1) count h (omega arith) (omega (arith, room_is))) in
       let back = stop_leads q byte byte stop refl goes in
       let skip = skip_on n q long (after.room + 1) byte (drop (count + 1) (left_of w) ++ rest) goes back (omega arith) in
       let same : left_at n q long (after.room + 1) (drop count (left_of w) ++ rest) ≡ left_at n q long (after.room + 1) (byte ∷ (drop (count + 1) (left_of w) ++ rest)) =
-        ap (λ (l : List ℕ). left_at n q long (after.room + 1) (l ++ rest)) (skim_byte (left_of w) w.room count inside) in
+      ap (λ (l : List ℕ). left_at n q long (after.room + 1) (l ++ rest)) (skim_byte (left_of w) w.room count inside) in
       let end : left_at n Between [] ((after.room + 1) - 1) (drop (count + 1) (left_of w) ++ rest) ≡ left_at n Between [] (room_of after) (ahead_of after ++ rest) =
-        ap (λ (k : ℕ). left_at n Between [] k (drop (count + 1) (left_of w) ++ rest)) (let has = fresh_room after fresh' in omega arith)
-        ∙ ap (λ (l : List ℕ). left_at n Between [] (room_of after) (l ++ rest)) (sym ahead_is) in
+      ap (λ (k : ℕ). left_at n Between [] k (drop (count + 1) (left_of w) ++ rest)) (let has = fresh_room after fresh' in omega arith)
+      ∙ ap (λ (l : List ℕ). left_at n Between [] (room_of after) (l ++ rest)) (sym ahead_is) in
       let P : Left → Type 0 = λ l. Continues l (left_at n Between [] ((after.room + 1) - 1) (drop (count + 1) (left_of w) ++ rest)) in
       let Q : Left → Type 0 = λ l. Continues (left_at n from long (room_of w) (ahead_of w ++ rest)) l in
       subst Q end (continues_trans _ _ _ on (subst P (sym same) skip))

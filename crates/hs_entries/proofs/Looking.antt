@@ -1,19 +1,14 @@
 -- What a look at the bytes at hand tells of their items.
-use Rattle.std.proofs.Common.{◌≡◌, ◌≢◌, ℕ, suc, ◌+◌, ◌-◌, ◌<◌, ◌≤◌, true, false, Bool, ◌||◌, nat_lt, List, [], ◌∷◌, ◌++◌, Some, length, take, drop, slice_range, slice_index, length-append, refl, sym, ap, append_assoc, append-nil, add-one, ◌∙◌, arith}
+use Rattle.std.proofs.Common.{◌≡◌, ℕ, suc, ◌+◌, ◌-◌, ◌<◌, ◌≤◌, true, false, ◌||◌, nat_lt, List, [], ◌∷◌, ◌++◌, length, take, slice_range, slice_index, length-append, refl, sym, ap, append-nil, ◌∙◌, arith}
 use Rattle.std.proofs.lemmas.List.{take_all}
 use Rattle.std.proofs.lemmas.Bool.Decides.{nat_tests}
-use Rattle.hs_entries.specs.declared.item.Item.{Item}
-use Rattle.hs_entries.specs.declared.place.Place.{Place}
-use Rattle.hs_entries.specs.declared.place.Place.TheVariants.{Between}
 use Rattle.hs_entries.specs.declared.window.Window.{Window}
 use Rattle.hs_entries.specs.declared.window.Look.{Look}
 use Rattle.hs_entries.specs.declared.window.Look.TheVariants.{Entry, Limit, Nothing}
-use Rattle.hs_entries.specs.Place.{ends}
-use Rattle.hs_entries.specs.Entry.{item_of}
 use Rattle.hs_entries.specs.Items.{items_from, no_items, whole_items}
 use Rattle.hs_entries.specs.Window.{skipped_of, begun_of, left_of, ahead_of, room_of, IsSound, IsAtEnd}
 use Rattle.hs_entries.specs.Reader.{has_item, finds}
-use Rattle.hs_entries.proofs.ItemSteps.{items_from-end, items_from-window, items_from-within, ahead_of-parts, length-passed}
+use Rattle.hs_entries.proofs.ItemSteps.{items_from-end, items_from-within, ahead_of-parts, length-passed}
 use Rattle.hs_entries.proofs.Spans.{span-append, span_one}
 
 -- the first of the bytes that weren't looked at
@@ -43,9 +38,9 @@ module _ (w : Window) (sound : IsSound w) (n : ℕ) where
       let more = slice_range w.buffer.items (w.at + 1) w.end in
       let some : w.room ≡ suc (w.room - 1) = let room = at_end.room in omega arith in
       let next : take w.room (left_of w) ≡ byte ∷ take (w.room - 1) more =
-        ap (λ (l : List ℕ). take w.room l) (left_of-next w sound at_end.next) ∙ ap (λ (k : ℕ). take k (byte ∷ more)) some in
+      ap (λ (l : List ℕ). take w.room l) (left_of-next w sound at_end.next) ∙ ap (λ (k : ℕ). take k (byte ∷ more)) some in
       ap has_item (hand ∙ ap (λ (l : List ℕ). items_from no_items n w.place (begun_of w) l) next
-        ∙ items_from-end no_items n w.place (begun_of w) byte (take (w.room - 1) more) at_end.ends)
+      ∙ items_from-end no_items n w.place (begun_of w) byte (take (w.room - 1) more) at_end.ends)
 
   -- nothing is found, and nothing is left
   pub none_at_hand : left_of w ≡ [] → whole_items n (take (room_of w) (ahead_of w)) ≡ []

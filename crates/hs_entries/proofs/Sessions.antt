@@ -1,16 +1,14 @@
 -- What an entry's bytes say.
-use Rattle.std.proofs.Common.{◌≡◌, ◌≢◌, ℕ, ◌+◌, ◌<◌, ◌≤◌, true, false, Bool, ◌&&◌, ◌==◌, nat_lt, if◌then◌else◌, List, [], ◌∷◌, length, Option, Some, None, Bor, IfNone, IfSome, refl, sym, ap, ◌∙◌, arith, lit<}
-use Rattle.std.specs.List.{position_or_len, before_first, after_first, list_any}
+use Rattle.std.proofs.Common.{◌≡◌, ℕ, ◌+◌, ◌<◌, true, false, Bool, ◌&&◌, nat_lt, if◌then◌else◌, List, [], ◌∷◌, length, Option, Some, None, Bor, refl, sym, ap, ◌∙◌, arith, lit<}
+use Rattle.std.specs.List.{position_or_len, list_any}
 use Rattle.std.specs.Str.{is_utf8, IsUtf8}
 use Rattle.std.proofs.lemmas.Bool.Decides.{nat_tests}
-use Rattle.std.proofs.lemmas.Grind.{common_steps}
 use Rattle.std.proofs.lemmas.Str.{IsUtf8-from_is_utf8, is_utf8-from_IsUtf8}
 use Rattle.std.proofs.lemmas.Str.Pattern.{IsSplitOnceResult, split_once_first}
-use Rattle.hs_entries.specs.declared.item.Item.{Item}
 use Rattle.hs_entries.specs.declared.item.Item.TheVariants.{Entry, Bad, TooLong}
-use Rattle.hs_entries.specs.declared.item.TheConstants.{MOST_BYTES, MOST_NAME_BYTES}
+use Rattle.hs_entries.specs.declared.item.TheConstants.{MOST_BYTES}
 use Rattle.hs_entries.specs.Left.{IsNumbered}
-use Rattle.hs_entries.specs.Entry.{is_letter, is_name_byte, is_colon, is_session, session_of, statement_of, place_of, has_session, is_too_long, item_of, cut_item_of, IsSplit}
+use Rattle.hs_entries.specs.Entry.{is_colon, is_session, session_of, statement_of, place_of, has_session, is_too_long, item_of, cut_item_of, IsSplit}
 
 -- an element passes a test where the first that does has a place
 pub list_any-place : {X : Type 0} (p : X → Bool) (xs : List X) → list_any p xs ≡ nat_lt (position_or_len p xs) (length xs)
@@ -68,10 +66,10 @@ item_of-entry n bytes entry name text session statement short good same split fr
 pub item_of-numbered : (n : ℕ) (bytes : List ℕ) → IsNumbered (item_of n bytes) n (n + 1)
 unfolding item_of
 item_of-numbered n bytes =
-    elim (is_too_long bytes) as (λ v. IsNumbered (if v then TooLong n else if has_session bytes && is_utf8 bytes then Entry n (session_of bytes) (statement_of bytes) (place_of bytes) else Bad n) n (n + 1))
-      [ true ↦ (refl, refl)
+    elim (is_too_long bytes) as (λ v. IsNumbered (if v then TooLong n else if has_session bytes && is_utf8 bytes then Entry n (session_of bytes) (statement_of bytes) (place_of bytes) else Bad n) n (n + 1)) [
+      | true ↦ (refl, refl)
       | false ↦ elim (has_session bytes && is_utf8 bytes) as (λ v. IsNumbered (if v then Entry n (session_of bytes) (statement_of bytes) (place_of bytes) else Bad n) n (n + 1)) [ true ↦ (refl, refl) | false ↦ (refl, refl) ]
-      ]
+    ]
 
 pub cut_item_of-long : (n : ℕ) (bytes : List ℕ) → is_too_long bytes ≡ true → cut_item_of n bytes ≡ TooLong n
 unfolding cut_item_of

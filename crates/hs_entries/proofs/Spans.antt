@@ -1,5 +1,5 @@
 -- Parts of a list, one behind another.
-use Rattle.std.proofs.Common.{◌≡◌, ℕ, ◌+◌, ◌-◌, ◌<◌, ◌≤◌, List, [], ◌∷◌, ◌++◌, length, take, drop, slice_index, slice_range, min, refl, sym, ap, ◌∙◌, arith}
+use Rattle.std.proofs.Common.{◌≡◌, ℕ, ◌+◌, ◌-◌, ◌<◌, ◌≤◌, List, [], ◌∷◌, ◌++◌, length, take, drop, slice_index, slice_range, min, sym, ap, ◌∙◌, arith}
 use Rattle.std.proofs.Math.Seq.{take-add}
 use Rattle.std.proofs.lemmas.List.{drop-drop, drop-take, take-take, drop_more, drop_at, take-append-le, length-take-le, length-take, length-drop, get_or-take, get_or-drop}
 
@@ -8,7 +8,7 @@ span-append xs i j k low high =
     let all : k - i ≡ (j - i) + (k - j) = omega arith in
     let from : i + (j - i) ≡ j = omega arith in
     sym (ap (λ (n : ℕ). take n (drop i xs)) all ∙ take-add (j - i) (k - j) (drop i xs)
-      ∙ ap (λ (l : List ℕ). take (j - i) (drop i xs) ++ take (k - j) l) (drop-drop (j - i) i xs ∙ ap (λ (n : ℕ). drop n xs) from))
+    ∙ ap (λ (l : List ℕ). take (j - i) (drop i xs) ++ take (k - j) l) (drop-drop (j - i) i xs ∙ ap (λ (n : ℕ). drop n xs) from))
 
 -- no part
 pub span_none : (xs : List ℕ) (i : ℕ) → slice_range xs i i ≡ []
@@ -26,7 +26,7 @@ pub drop-span : (xs : List ℕ) (k j e : ℕ) → j + k ≤ e → drop k (slice_
 drop-span xs k j e inside =
     let all : e - j ≡ k + (e - (j + k)) = omega arith in
     ap (λ (n : ℕ). drop k (take n (drop j xs))) all ∙ drop-take k (e - (j + k)) (drop j xs)
-      ∙ ap (λ (l : List ℕ). take (e - (j + k)) l) (drop-drop k j xs)
+    ∙ ap (λ (l : List ℕ). take (e - (j + k)) l) (drop-drop k j xs)
 
 -- one element
 pub span_one : (xs : List ℕ) (i : ℕ) → i < length xs → slice_range xs i (i + 1) ≡ slice_index xs i ∷ []

@@ -1,12 +1,11 @@
 -- How the parts of an entry, and comments before it, lead from one place to another.
-use Rattle.std.proofs.Common.{◌≡◌, ◌≢◌, ℕ, ◌+◌, true, false, Bool, not, ◌==◌, ◌&&◌, ◌||◌, List, [], ◌∷◌, ◌++◌, Some, refl, sym, ap, append_assoc, append-nil, ◌∙◌, arith}
+use Rattle.std.proofs.Common.{◌≡◌, ◌≢◌, ℕ, ◌+◌, true, false, Bool, ◌==◌, ◌&&◌, List, [], ◌∷◌, ◌++◌, Some, refl, sym, ap, append_assoc, append-nil, ◌∙◌, arith}
 use Rattle.std.proofs.lemmas.Bool.Decides.{nat_tests}
-use Rattle.hs_entries.specs.declared.item.Item.{Item}
 use Rattle.hs_entries.specs.declared.place.Place.{Place}
-use Rattle.hs_entries.specs.declared.place.Place.TheVariants.{Between, DashBetween, SlashBetween, LineBetween, BlockBetween, StarBetween, Plain, Dash, Slash, Text, Quoted, Line, Block, Star}
+use Rattle.hs_entries.specs.declared.place.Place.TheVariants.{Between, LineBetween, BlockBetween, StarBetween, Plain, Text, Quoted, Line, Block, Star}
 use Rattle.hs_entries.specs.Place.{is_white, behind, next_place, is_open, ends, stops, leads, is_between, is_entry, KeepsPlace}
 use Rattle.hs_entries.specs.Entry.{item_of, cut_item_of}
-use Rattle.hs_entries.specs.Items.{items, items_from, cut_items}
+use Rattle.hs_entries.specs.Items.{items, cut_items}
 use Rattle.hs_entries.specs.Parts.{Part, byte, text, name, line, block, spelled, spelling, lacks, lacks_close, is_apart, is_part, last_of, last_of_all, are_parts, begins_entry, is_entry_of, unclosed}
 use Rattle.hs_entries.proofs.Leading.{leads-append, text_keeps, quoted_keeps, line_keeps, line_between_keeps}
 use Rattle.hs_entries.proofs.ItemSteps.{items_from-end, items_from-skip, items_from-leads}
@@ -116,7 +115,7 @@ unfolding next_place is_open between_block
 block_skipped n comment bytes h =
     let (s, on) = between_block_leads false comment h in
     let star : leads Between ((47 ∷ 42 ∷ comment) ++ 42 ∷ []) ≡ Some StarBetween =
-      leads-append Between (between_block s) (47 ∷ 42 ∷ comment) (42 ∷ []) (block_begins comment ∙ on) ∙ star_leads s in
+    leads-append Between (between_block s) (47 ∷ 42 ∷ comment) (42 ∷ []) (block_begins comment ∙ on) ∙ star_leads s in
     ap (λ (l : List ℕ). items n l) (sym (append_assoc (47 ∷ 42 ∷ comment) (42 ∷ []) (47 ∷ bytes)))
     ∙ items_from-leads cut_items n Between StarBetween [] ((47 ∷ 42 ∷ comment) ++ 42 ∷ []) (47 ∷ bytes) star
     ∙ items_from-skip cut_items n StarBetween ((47 ∷ 42 ∷ comment) ++ 42 ∷ []) 47 bytes refl refl

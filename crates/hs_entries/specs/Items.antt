@@ -1,5 +1,5 @@
 -- The items of the input, as a function of its bytes: in whatever pieces they come, the items are the same.
-use Rattle.std.specs.Prelude.{ℕ, ◌+◌, Bool, List, [], ◌∷◌, ◌++◌, if◌then◌else◌}
+use Rattle.std.specs.Prelude.{ℕ, ◌+◌, List, [], ◌∷◌, ◌++◌, if◌then◌else◌}
 use Rattle.hs_entries.specs.declared.item.Item.{Item}
 use Rattle.hs_entries.specs.declared.place.Place.{Place}
 use Rattle.hs_entries.specs.declared.place.Place.TheVariants.{Between}

@@ -1,5 +1,5 @@
 -- An entry as its parts: bytes, and among them texts, quoted names and comments.
-use Rattle.std.specs.Prelude.{ℕ, Bool, true, false, ◌==◌, ◌||◌, ◌&&◌, not, List, [], ◌∷◌, ◌++◌}
+use Rattle.std.specs.Prelude.{ℕ, Bool, true, false, ◌==◌, ◌&&◌, not, List, [], ◌∷◌, ◌++◌}
 use Rattle.hs_entries.specs.Place.{is_white}
 
 pub data Part : Type 0 where

@@ -21,9 +21,13 @@ pub enum Item {
     },
     /// An entry without a session's name and directly a colon, or one that isn't UTF-8, or one that the
     /// input ends before its `;`.
-    Bad { number: u64 },
+    Bad {
+        number: u64,
+    },
     /// An entry of more than `MOST_BYTES` bytes, whatever they are. They aren't kept.
-    TooLong { number: u64 },
+    TooLong {
+        number: u64,
+    },
     /// The end of the input.
     End,
 }

@@ -13,10 +13,9 @@ mod item;
 mod laws;
 mod place;
 mod reader;
-mod window;
-
 #[cfg(test)]
 mod tests;
+mod window;
 
 pub use input_fault::InputFault;
 pub use item::{Item, MOST_BYTES};

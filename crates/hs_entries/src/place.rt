@@ -63,11 +63,8 @@ impl Place {
             | Place::Quoted
             | Place::Line
             | Place::Block => self,
-            Place::DashBetween
-            | Place::SlashBetween
-            | Place::Plain
-            | Place::Dash
-            | Place::Slash => behind(byte),
+            Place::DashBetween | Place::SlashBetween | Place::Plain | Place::Dash | Place::Slash =>
+                behind(byte),
         }
     }
 

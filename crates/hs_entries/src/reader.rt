@@ -294,11 +294,7 @@ impl EntryReader {
         }
         let is_entry = scanned.place.ends(bytes[scanned.count]);
         self.window.use_to(scanned.count + 1);
-        if is_entry {
-            Skim::Entry
-        } else {
-            Skim::Skipped
-        }
+        if is_entry { Skim::Entry } else { Skim::Skipped }
     }
 
     // The item of an entry that is too long.

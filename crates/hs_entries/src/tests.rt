@@ -25,7 +25,11 @@ static CASES: [(u64, &[u8], &str); 104] = [
     (999, b"a: '';b:;", "1:a@2: '';|2:b@2:;|end"),
     (999, b"a: 'x\n;y';", "1:a@2: 'x\n;y';|end"),
     (999, b"a: \"x;y\";", "1:a@2: \"x;y\";|end"),
-    (999, b"a: \"x\"\";\"\"y\";b:;", "1:a@2: \"x\"\";\"\"y\";|2:b@2:;|end"),
+    (
+        999,
+        b"a: \"x\"\";\"\"y\";b:;",
+        "1:a@2: \"x\"\";\"\"y\";|2:b@2:;|end",
+    ),
     (999, b"a: \"it's;\";b:;", "1:a@2: \"it's;\";|2:b@2:;|end"),
     (999, b"a: '\";';b:;", "1:a@2: '\";';|2:b@2:;|end"),
     (999, b"a: ';", "1:bad|end"),
@@ -41,7 +45,11 @@ static CASES: [(u64, &[u8], &str); 104] = [
     (999, b"a: 1-2;", "1:a@2: 1-2;|end"),
     (999, b"a: 1- -2;", "1:a@2: 1- -2;|end"),
     (999, b"a: 1 /* ; */ +2;", "1:a@2: 1 /* ; */ +2;|end"),
-    (999, b"a: 1 /* ; ** ; **/;b:;", "1:a@2: 1 /* ; ** ; **/;|2:b@2:;|end"),
+    (
+        999,
+        b"a: 1 /* ; ** ; **/;b:;",
+        "1:a@2: 1 /* ; ** ; **/;|2:b@2:;|end",
+    ),
     (999, b"a: /* ' ; */;", "1:a@2: /* ' ; */;|end"),
     (999, b"a: /*/;*/;", "1:a@2: /*/;*/;|end"),
     (999, b"a: /**/;b:;", "1:a@2: /**/;|2:b@2:;|end"),
@@ -76,7 +84,11 @@ static CASES: [(u64, &[u8], &str); 104] = [
     (999, b"/**", "1:bad|end"),
     (999, b"/*/a:;", "1:bad|end"),
     (999, b"/*/ */a:;", "1:a@2:;|end"),
-    (999, b"a:1;  /* x */ -- y\n\tb:2;\n", "1:a@2:1;|2:b@2:2;|end"),
+    (
+        999,
+        b"a:1;  /* x */ -- y\n\tb:2;\n",
+        "1:a@2:1;|2:b@2:2;|end",
+    ),
     (999, b"a:1;/* unclosed ; b:2;", "1:a@2:1;|2:bad|end"),
     (999, b"a:1;-- unclosed ; b:2;", "1:a@2:1;|end"),
     // what begins neither a comment nor a session's name
@@ -147,7 +159,12 @@ static LONG_CASES: [(&[u8], u8, usize, &[u8], &str); 14] = [
 ];
 
 // A host that gives its input in pieces of this length.
-fn host(alloc: Global, input: Vec<u8>, failing: CallList, piece: usize) -> Result<MemHost, AllocError> {
+fn host(
+    alloc: Global,
+    input: Vec<u8>,
+    failing: CallList,
+    piece: usize,
+) -> Result<MemHost, AllocError> {
     let mut source = MemHost::new(alloc, Bytes::from_vec(input), failing);
     source.give_in_pieces(vec![in alloc; piece; 1]?);
     Ok(source)
@@ -171,12 +188,17 @@ fn long_input(
 fn show(to: &mut String, answer: Result<Item, InputFault>) -> Result<bool, AllocError> {
     let alloc = *to.allocator();
     let (text, is_last) = match answer {
-        Ok(Item::Entry {
-            number,
-            session,
-            text,
-            at,
-        }) => (show_entry(alloc, number, session.as_str(), text.as_str(), at)?, false),
+        Ok(
+            Item::Entry {
+                number,
+                session,
+                text,
+                at,
+            },
+        ) => (
+            show_entry(alloc, number, session.as_str(), text.as_str(), at)?,
+            false,
+        ),
         Ok(Item::Bad { number }) => (format!(in alloc; "{number}:bad|")?, false),
         Ok(Item::TooLong { number }) => (format!(in alloc; "{number}:long|")?, false),
         Ok(Item::End) => (String::from_str(alloc, "end")?, true),

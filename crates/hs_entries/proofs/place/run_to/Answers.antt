@@ -1,4 +1,4 @@
-use Rattle.std.proofs.Common.{◌≡◌, ℕ, arith}
+use Rattle.std.proofs.Common.{arith}
 use Rattle.hs_entries.proofs.Leading.{leads_kept}
 use Rattle.hs_entries.proofs.place.run_to.Goals as goal
 

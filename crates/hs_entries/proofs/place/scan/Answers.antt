@@ -1,4 +1,4 @@
-use Rattle.std.proofs.Common.{◌≡◌, ◌∙◌, ℕ, ◌+◌, ◌<◌, ◌≤◌, Some, take, drop, length, slice_index, sym, ap, arith}
+use Rattle.std.proofs.Common.{◌≡◌, ◌∙◌, ◌+◌, Some, take, drop, sym, ap, arith}
 use Rattle.hs_entries.specs.Place.{leads}
 use Rattle.hs_entries.proofs.Leading.{leads_run, leads_more}
 use Rattle.std.proofs.lemmas.List.{take_rest}

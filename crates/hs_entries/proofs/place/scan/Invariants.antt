@@ -1,4 +1,4 @@
-use Rattle.std.proofs.Common.{◌≡◌, ℕ, ◌-◌, ◌≤◌, Some, length, take}
+use Rattle.std.proofs.Common.{◌≡◌, ◌-◌, ◌≤◌, Some, length, take}
 use Rattle.hs_entries.specs.Place.{leads}
 use Rattle.hs_entries.proofs.place.scan.Given as goal
 

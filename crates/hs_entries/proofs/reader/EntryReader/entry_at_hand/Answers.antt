@@ -1,7 +1,7 @@
-use Rattle.std.proofs.Common.{◌≡◌, ◌∙◌, ◌+◌, ◌-◌, ◌∷◌, ◌++◌, [], ℕ, List, ap, slice_index, arith}
+use Rattle.std.proofs.Common.{◌≡◌, ◌∙◌, ◌+◌, ◌∷◌, ◌++◌, [], ℕ, List, ap, slice_index}
 use Rattle.hs_entries.specs.Entry.{item_of}
 use Rattle.hs_entries.specs.Window.{begun_of}
-use Rattle.hs_entries.proofs.LeftSteps.{entry_step, cut_step, long_on, long_next, leads_on, skip_on}
+use Rattle.hs_entries.proofs.LeftSteps.{entry_step}
 use Rattle.hs_entries.proofs.Sessions.{item_of-numbered}
 use Rattle.hs_entries.proofs.reader.EntryReader.entry_at_hand.Goals as goal
 

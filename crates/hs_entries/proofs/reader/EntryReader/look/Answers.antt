@@ -1,4 +1,4 @@
-use Rattle.std.proofs.Common.{◌≡◌, ◌∙◌, ◌+◌, ℕ, List, ◌||◌, nat_lt, length, take, ap}
+use Rattle.std.proofs.Common.{◌∙◌, ◌+◌, ℕ, List, ◌||◌, nat_lt, length, take, ap}
 use Rattle.hs_entries.specs.Items.{whole_items}
 use Rattle.hs_entries.specs.Reader.{has_item}
 use Rattle.hs_entries.specs.Window.{ahead_of, room_of}

@@ -1,4 +1,4 @@
-use Rattle.std.proofs.Common.{◌≡◌, ℕ, ◌+◌, ◌-◌, ◌≤◌, true, length}
+use Rattle.std.proofs.Common.{◌≡◌, ◌+◌, ◌-◌, ◌≤◌, true, length}
 use Rattle.hs_entries.specs.Left.{Continues}
 use Rattle.hs_entries.specs.Reader.{left, next_number, room, ahead, is_at_hand}
 use Rattle.hs_entries.proofs.reader.EntryReader.read_item.Given as goal

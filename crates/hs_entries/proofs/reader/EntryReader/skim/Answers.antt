@@ -1,6 +1,5 @@
-use Rattle.std.proofs.Common.{◌≡◌, ◌∙◌, ◌+◌, ◌<◌, ◌≤◌, true, false, ℕ, [], List, length, take, slice_index, ap, sym, arith}
+use Rattle.std.proofs.Common.{◌≡◌, ◌∙◌, ◌+◌, ◌<◌, [], length, sym, arith}
 use Rattle.std.proofs.lemmas.List.{nil_from_length}
-use Rattle.hs_entries.specs.Place.{ends, stops}
 use Rattle.hs_entries.specs.Window.{ahead_of, left_of}
 use Rattle.hs_entries.proofs.LeftSteps.{skim_nothing, skim_limit, skim_entry, skim_skipped, fresh_ahead}
 use Rattle.hs_entries.proofs.reader.EntryReader.skim.Goals as goal
@@ -22,9 +21,10 @@ returns-else-has_more-clause-skims c = λ rest.
     let done = c.use_to.ensures in
     let leads = rw c.in_limit-bytes.ensures at c.scan-scanned.ensures.leads in
     let whole = rw c.in_limit-bytes.ensures at c.if-scanned-most.true in
-    let none : left_of after ≡ [] = nil_from_length (left_of after) (grind (arith, c.has_more.ensures, c.if-has_more.false)) in
-    (skim_nothing (r.count + 1) c.args.from c.scan-scanned.result.place r.window after c.scan-scanned.result.count rest c.requires.fresh done.fresh leads (omega (arith, whole)) done.ahead done.room,
-      fresh_ahead after done.fresh ∙ none)
+    let none : left_of after ≡ [] = nil_from_length (left_of after) (grind (arith, c.has_more.ensures, c.if-has_more.false)) in (
+      skim_nothing (r.count + 1) c.args.from c.scan-scanned.result.place r.window after c.scan-scanned.result.count rest c.requires.fresh done.fresh leads (omega (arith, whole)) done.ahead done.room,
+      fresh_ahead after done.fresh ∙ none,
+    )
 
 pub returns-then-is_entry-clause-skims : goal.returns-then-is_entry-clause-skims
 returns-then-is_entry-clause-skims c = λ rest.

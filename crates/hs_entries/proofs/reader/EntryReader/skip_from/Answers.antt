@@ -1,7 +1,7 @@
-use Rattle.std.proofs.Common.{rules, ◌≡◌, ◌∙◌, ◌+◌, ◌<◌, ◌≤◌, ◌++◌, true, false, ℕ, [], List, length, ap, sym, refl, arith}
-use Rattle.hs_entries.specs.Window.{ahead_of, left_of, room_of}
-use Rattle.hs_entries.specs.Left.{Takes, Continues, long}
-use Rattle.hs_entries.specs.Reader.{left, left_within, ahead, room, cut_at}
+use Rattle.std.proofs.Common.{rules, ◌≡◌, ◌∙◌, ◌+◌, ◌++◌, true, ℕ, [], List, length, ap, sym, arith}
+use Rattle.hs_entries.specs.Window.{ahead_of, room_of}
+use Rattle.hs_entries.specs.Left.{long}
+use Rattle.hs_entries.specs.Reader.{ahead, room, cut_at}
 use Rattle.hs_entries.proofs.LeftSteps.{left_at, continues_trans, continues_takes, continues_same, cut_step, takes_at, fresh_ahead, long_too_long}
 use Rattle.hs_entries.proofs.reader.EntryReader.skip_from.Goals as goal
 
@@ -28,13 +28,13 @@ returns-then-not-branch-clause-some g c = λ told.
     let left_over : ahead after ≡ [] = fresh_ahead after.window (read.fresh fresh) ∙ read.none c.if-not-branch.true in
     let input : ahead after ++ unread ≡ [] = rw left_over (read.end told c.if-not-branch.true) in
     let same = continues_same (skimmed.count + 1) n place long (room skimmed) (room after) (ahead skimmed ++ rest) (ahead after ++ unread)
-      (let count = read.count in omega arith) (sym (read.fresh_room fresh)) (sym (read.bytes told fresh)) in
+    (let count = read.count in omega arith) (sym (read.fresh_room fresh)) (sym (read.bytes told fresh)) in
     continues_takes _ (left_at n place long (room after) (ahead after ++ unread)) _ c.cut_item.result
-      (continues_trans _ _ _ (continues_trans _ _ _ (c.skims.invariant.continues told) on.0) same)
-      (takes_at n (c.cut_item.new.self.count + 1) place long (ahead after ++ unread) [] (ahead c.cut_item.new.self ++ unread) [] (room after) (room c.cut_item.new.self) (room after)
-        c.cut_item.result (cut_at place true n) input
-        (ap (λ (l : List ℕ). l ++ unread) (ap ahead_of c.cut_item.ensures.window) ∙ input) (ap room_of c.cut_item.ensures.window) c.cut_item.ensures.item
-        (cut_step n (c.cut_item.new.self.count + 1) place long (room after) true long_too_long))
+    (continues_trans _ _ _ (continues_trans _ _ _ (c.skims.invariant.continues told) on.0) same)
+    (takes_at n (c.cut_item.new.self.count + 1) place long (ahead after ++ unread) [] (ahead c.cut_item.new.self ++ unread) [] (room after) (room c.cut_item.new.self) (room after)
+    c.cut_item.result (cut_at place true n) input
+    (ap (λ (l : List ℕ). l ++ unread) (ap ahead_of c.cut_item.ensures.window) ∙ input) (ap room_of c.cut_item.ensures.window) c.cut_item.ensures.item
+    (cut_step n (c.cut_item.new.self.count + 1) place long (room after) true long_too_long))
 
 pub skims-preserved : goal.skims-preserved
 skims-preserved g c =
@@ -52,8 +52,8 @@ skims-preserved g c =
     let grown = read.more c.if-not-branch.false in
     record {
       continues = λ told.
-        let on = c.in-Nothing.ensures.skims rest in
-        continues_trans _ _ _ (continues_trans _ _ _ (c.skims.invariant.continues told) on.0)
+          let on = c.in-Nothing.ensures.skims rest in
+          continues_trans _ _ _ (continues_trans _ _ _ (c.skims.invariant.continues told) on.0)
           (continues_same (skimmed.count + 1) (after.count + 1) c.in-Nothing.next _ (room skimmed) (room after) (ahead skimmed ++ rest) (ahead after ++ unread) (omega arith) (sym same) (sym (read.bytes told fresh)));
       fresh = read.fresh fresh;
       some = omega arith;

@@ -1,4 +1,4 @@
-use Rattle.std.proofs.Common.{◌≡◌, ℕ, ◌+◌, ◌-◌, ◌^◌, ◌≤◌, ◌<◌, length}
+use Rattle.std.proofs.Common.{◌≡◌, ◌+◌, ◌^◌, ◌≤◌, ◌<◌, length}
 use Rattle.hs_entries.specs.Left.{Continues}
 use Rattle.hs_entries.specs.Window.{IsFresh}
 use Rattle.hs_entries.specs.Reader.{left_within, room, ahead}

@@ -1,4 +1,4 @@
-use Rattle.std.proofs.Common.{◌≡◌, ℕ, ◌-◌}
+use Rattle.std.proofs.Common.{◌≡◌, ◌-◌}
 use Rattle.hs_entries.specs.Window.{ahead_of, room_of, IsSound}
 use Rattle.hs_entries.proofs.window.Window.look.Given as goal
 

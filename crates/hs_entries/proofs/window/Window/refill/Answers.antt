@@ -1,5 +1,4 @@
-use Rattle.std.proofs.Common.{◌≡◌, ◌∙◌, ◌++◌, ◌≤◌, ◌-◌, ℕ, List, length, take, sym, ap, arith}
-use Rattle.std.proofs.lemmas.List.{with_items_is}
+use Rattle.std.proofs.Common.{◌≡◌, ◌≤◌, ◌-◌, length, arith}
 use Rattle.std.proofs.lemmas.Grind.{common_steps}
 use borrow.Rule.Slice.PartMut.{post_of}
 use Rattle.hs_entries.proofs.Spans.{read_span, span_end}
@@ -14,5 +13,5 @@ returns-clause-bytes g c = λ told.
     let after = c.make_room.new.self in
     let buffer = c.deref_mut.result.now in
     let read = read_span buffer c.read_input.new.buf (post_of after.end (length buffer - after.end) buffer) (g.S.Source.unread c.args.source.now)
-      (g.S.Source.unread c.read_input.new.self) after.at after.end c.in_ok-count.count at_end (omega (arith, c.deref_mut.ensures.len)) c.in_ok-count.ensures.bound.0 bytes.0 in
+    (g.S.Source.unread c.read_input.new.self) after.at after.end c.in_ok-count.count at_end (omega (arith, c.deref_mut.ensures.len)) c.in_ok-count.ensures.bound.0 bytes.0 in
     grind (arith, common_steps, read)

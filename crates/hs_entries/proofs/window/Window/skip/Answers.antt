@@ -1,4 +1,4 @@
-use Rattle.std.proofs.Common.{rules, ◌≡◌, ℕ, ◌+◌, ◌-◌, ◌<◌, ◌≤◌, Some, slice_range, ap, arith}
+use Rattle.std.proofs.Common.{rules, ◌+◌, ap, arith}
 use Rattle.hs_entries.specs.Place.{leads}
 use Rattle.hs_entries.specs.declared.place.Place.TheVariants.{Between}
 use Rattle.hs_entries.proofs.Leading.{passes_span}

@@ -1,4 +1,4 @@
-use Rattle.std.proofs.Common.{rules, ◌≡◌, ℕ, ◌+◌, ◌-◌, ◌<◌, ◌≤◌, Some, slice_range, ap, sym, arith, length}
+use Rattle.std.proofs.Common.{rules, ◌+◌, ◌≤◌, ap, sym, arith}
 use Rattle.std.proofs.lemmas.List.Edits.{length-between}
 use Rattle.hs_entries.specs.Place.{leads, passes}
 use Rattle.hs_entries.specs.declared.place.Place.TheVariants.{Between}
