@@ -1,5 +1,5 @@
 -- What the calls of a host do.
-use Rattle.std.specs.Prelude.{◌≡◌, ℕ, ◌+◌, ◌-◌, ◌^◌, ◌<◌, ◌≤◌, min, List, [], ◌++◌, length, take, Result, IfOk, OnErr, MatchResult, IsErrOf}
+use Rattle.std.specs.Prelude.{◌≡◌, ℕ, ◌+◌, ◌-◌, ◌^◌, ◌<◌, ◌≤◌, min, List, [], ◌++◌, length, take, Result, MatchResult, IsErrOf}
 use Rattle.hs_host.specs.declared.HostFault.{HostFault}
 use Rattle.hs_host.specs.declared.HostFault.TheVariants.{Fault}
 
@@ -17,8 +17,8 @@ pub record HasCause {T : Type 0} (before now : ℕ) (result : Result T HostFault
 abbrev pub TakesInput : List ℕ → List ℕ → Result ℕ HostFault → List ℕ → Type 0
 TakesInput old new result buffer =
     MatchResult result
-      (λ n. (old ≡ take n buffer ++ new) × (n ≡ 0 → 0 < length buffer → new ≡ []))
-      (λ _. new ≡ old)
+    (λ n. (old ≡ take n buffer ++ new) × (n ≡ 0 → 0 < length buffer → new ≡ []))
+    (λ _. new ≡ old)
 
 -- At `Ok n` the first n bytes of the piece stand behind the output so far. After an `Err` it is as before.
 abbrev pub AddsOutput : List ℕ → List ℕ → List ℕ → Result ℕ HostFault → Type 0

@@ -6,6 +6,8 @@ mod call_list;
 mod input;
 mod memory;
 mod never;
+#[cfg(test)]
+mod tests;
 
 pub use call_list::CallList;
 pub use memory::MemHost;

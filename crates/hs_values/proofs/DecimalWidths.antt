@@ -1,9 +1,9 @@
 -- What 38 digits and 128 bits have to do with each other.
-use Rattle.std.proofs.Common.{◌≡◌, ◌^◌, ◌<◌, ◌≤◌, ◌<ℤ◌, ℕ, ℤ, pos, FitsSigned, Err, arith}
+use Rattle.std.proofs.Common.{◌≡◌, ◌^◌, ◌<◌, ◌≤◌, ◌<ℤ◌, ℕ, ℤ, pos, negsuc, neg_ℤ, int_div, FitsSigned, Err, sym, ap, arith}
 use Rattle.std.specs.Int.{w128}
 use Rattle.std.specs.Prelude.{unsigned_abs}
 use Rattle.std.proofs.lemmas.Int.{fits_signed_from_abs}
-use Rattle.std.proofs.Math.Nat.{pow-le-pow_right, one-le-pow}
+use Rattle.std.proofs.Math.Nat.{pow-le-pow_right, one-le-pow, div-eq_of_lt}
 use Rattle.hs_values.specs.Decimal.{checked_of}
 use Rattle.hs_values.specs.declared.fault.EvalFault.TheVariants.{Range}
 
@@ -28,3 +28,17 @@ ten_fits k few =
 
 pub ten_positive : (k : ℕ) → pos 0 <ℤ pos (10 ^ k)
 ten_positive k = let least : 1 ≤ 10 ^ k = one-le-pow k 10 (omega arith) in grind (arith, least)
+
+size_of_fitting : (z : ℤ) → FitsSigned w128 z → unsigned_abs z ≤ 2 ^ 127
+size_of_fitting (pos n) fits = omega (arith, fits.sfits)
+size_of_fitting (negsuc n) fits = omega (arith, fits.sfits)
+
+-- no number of 128 bits has more than 39 digits
+pub all_cut : (z : ℤ) (k : ℕ) → FitsSigned w128 z → 38 < k → pos 0 ≡ int_div z (pos (10 ^ k))
+all_cut z k fits many =
+    let more : 10 ^ 39 ≤ 10 ^ k = pow-le-pow_right {n = 10} (omega arith) {i = 39} many in
+    by z (10 ^ k) (size_of_fitting z fits) more
+  where
+    by : (y : ℤ) (d : ℕ) → unsigned_abs y ≤ 2 ^ 127 → 10 ^ 39 ≤ d → pos 0 ≡ int_div y (pos d)
+    by (pos n) d few more = ap pos (sym (div-eq_of_lt (omega arith)))
+    by (negsuc n) d few more = ap (λ m. neg_ℤ (pos m)) (sym (div-eq_of_lt (omega arith)))

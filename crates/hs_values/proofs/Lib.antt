@@ -1,4 +1,7 @@
+pub mod Assigned
+pub mod Bags
 pub mod DecimalWidths
+pub mod Keys
 pub mod Lawful
 pub mod Rows
 pub mod Scales

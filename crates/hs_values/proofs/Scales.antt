@@ -72,6 +72,10 @@ number_cmp_total = record {
   congr = λ x y z h. level x.units y.units z.units (10 ^ x.scale) (10 ^ y.scale) (10 ^ z.scale) (int_ranked _ _ Equal (sym h)) (ten_positive x.scale) (ten_positive y.scale);
 }
 
+-- at one scale neither need be raised
+pub level_cmp : (a b : ℤ) (p q : ℕ) → p ≡ q → int_cmp a b ≡ int_cmp (a *ℤ pos (10 ^ q)) (b *ℤ pos (10 ^ p))
+level_cmp a b p q e = sym (compared_times a b (10 ^ q) (ten_positive q)) ∙ ap (λ k. int_cmp (a *ℤ pos (10 ^ q)) (b *ℤ pos (10 ^ k))) (sym e)
+
 -- at the greater scale one of them need not be raised
 pub raised_cmp : (a b : ℤ) (p q : ℕ) → p ≤ q → int_cmp (a *ℤ pos (10 ^ (q - p))) b ≡ int_cmp (a *ℤ pos (10 ^ q)) (b *ℤ pos (10 ^ p))
 raised_cmp a b p q le =

@@ -10,10 +10,10 @@ use Rattle.std.proofs.lemmas.List.Sorted.{sorted_far, ranks_by, IsPermutation-re
 use Rattle.hs_values.specs.Sorted.{placed, sorted_by}
 
 module _ {X : Type 0} where
-  kept : (p : X → Bool) (y : X) (ys : List X) → p y ≡ true → filter p (y ∷ ys) ≡ y ∷ filter p ys
+  pub kept : (p : X → Bool) (y : X) (ys : List X) → p y ≡ true → filter p (y ∷ ys) ≡ y ∷ filter p ys
   kept p y ys h = cond-true _ _ _ h
 
-  dropped : (p : X → Bool) (y : X) (ys : List X) → p y ≡ false → filter p (y ∷ ys) ≡ filter p ys
+  pub dropped : (p : X → Bool) (y : X) (ys : List X) → p y ≡ false → filter p (y ∷ ys) ≡ filter p ys
   dropped p y ys h = cond-false _ _ _ h
 
 module _ {X : Type 0} (lt : X → X → Bool) (o : IsStrictWeakOrder lt) where
@@ -45,7 +45,7 @@ module _ {X : Type 0} (lt : X → X → Bool) (o : IsStrictWeakOrder lt) where
       next (y ∷ z ∷ zs) zero d h below = h.0.0
       next (y ∷ z ∷ zs) (suc k) d h below = rw add-one (rw add-one at (next (z ∷ zs) k d h.1 (omega arith)))
 
-  tied : (x y : X) → ties lt x y ≡ true → (lt x y ≡ false) × (lt y x ≡ false)
+  pub tied : (x y : X) → ties lt x y ≡ true → (lt x y ≡ false) × (lt y x ≡ false)
   tied x y h = let both = and_parts (not (lt x y)) (not (lt y x)) h in (not-true _ both.0, not-true _ both.1)
 
   tie : (x y : X) → lt x y ≡ false → lt y x ≡ false → ties lt x y ≡ true
@@ -93,10 +93,10 @@ module _ {X : Type 0} (lt : X → X → Bool) (o : IsStrictWeakOrder lt) where
       same_from_ties ys zs (rises_from ys (sorted_far lt o ys up)) (rises_from zs (sorted_far lt o zs down)) (λ x. first x ∙ sym (second x))
 
 module _ {X : Type 0} (cmp : X → X → Ordering) (o : IsTotalOrder cmp) where
-  abbrev lt : X → X → Bool
+  abbrev pub lt : X → X → Bool
   lt x y = is_lt (cmp x y)
 
-  ranked : IsStrictWeakOrder lt
+  pub ranked : IsStrictWeakOrder lt
   ranked = ranks_by o (λ x. x)
 
   past : (x y : X) (ys : List X) → lt y x ≡ true → placed cmp x (y ∷ ys) ≡ y ∷ placed cmp x ys

@@ -1,5 +1,5 @@
 -- The order of values, and that of rows.
-use Rattle.std.specs.Prelude.{ℕ, ◌^◌, List, ℤ, pos, ◌*ℤ◌}
+use Rattle.std.specs.Prelude.{ℕ, ◌^◌, List, ℤ, pos, ◌*ℤ◌, Option, Some, None}
 use Rattle.std.specs.Cmp.Lexicographic.{slice_cmp}
 use Rattle.std.specs.Ordering.{nat_cmp, int_cmp, bool_cmp}
 use Rattle.std.specs.declared.cmp.Ordering.{Ordering}
@@ -54,3 +54,9 @@ order_of a b = nat_cmp (kind_of a) (kind_of b)
 -- the order of rows: by the first column in which they differ, and a row before a longer one that it begins
 abbrev pub row_order_of : List Value → List Value → Ordering
 row_order_of = slice_cmp order_of
+
+-- the comparison of SQL, which has no answer where there is a NULL
+abbrev pub cmp_of : Value → Value → Option Ordering
+cmp_of v.Null b = None
+cmp_of a v.Null = None
+cmp_of a b = Some (order_of a b)

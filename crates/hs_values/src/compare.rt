@@ -1,8 +1,8 @@
 // The order of values and of rows.
-ghost use Rattle.std.specs.Prelude.{◌≡◌, ◌^◌, pos, ◌*ℤ◌, SomeIff, FitsSigned, OnOk, OnErr, map};
+ghost use Rattle.std.specs.Prelude.{◌≡◌, ◌^◌, pos, ◌*ℤ◌, SomeIff, FitsSigned, OnOk, OnErr, map, IsNone, ◌↔◌, ◌⊎◌};
 ghost use Rattle.std.specs.Int.{w128};
 ghost use Rattle.std.specs.Ordering.{int_cmp};
-ghost use Rattle.hs_values.specs.Order.{seen, whole, kind_of, number_cmp, order_of, row_order_of};
+ghost use Rattle.hs_values.specs.Order.{seen, whole, kind_of, number_cmp, order_of, row_order_of, cmp_of};
 ghost use Rattle.hs_values.specs.Sorted.{sorted_by, sorted_rows};
 
 use crate::decimal::{MOST_DIGITS, ten_to};
@@ -36,12 +36,14 @@ fn compare_raised(a: i128, noughts: u8, b: i128) -> Ordering
     }
 }
 
-#[tactic(auto, using(crate::proofs::Scales::raised_cmp, crate::proofs::Scales::lowered_cmp))]
+#[tactic(auto, using(crate::proofs::Scales::level_cmp, crate::proofs::Scales::raised_cmp, crate::proofs::Scales::lowered_cmp))]
 /// Two decimals as numbers, exactly.
 fn compare_numbers(a: Dec, b: Dec) -> Ordering
     ensures { result ≡ number_cmp a b }
 {
-    if a.scale <= b.scale {
+    if a.scale == b.scale {
+        a.units.cmp(&b.units)
+    } else if a.scale < b.scale {
         compare_raised(a.units, b.scale - a.scale, b.units)
     } else {
         compare_raised(b.units, a.scale - b.scale, a.units).reverse()
@@ -49,7 +51,7 @@ fn compare_numbers(a: Dec, b: Dec) -> Ordering
 }
 
 /// A whole number as a decimal.
-fn whole(n: i64) -> Dec
+pub(crate) fn whole(n: i64) -> Dec
     ensures { result ≡ whole n }
 {
     Dec {
@@ -92,18 +94,43 @@ pub fn order(a: ValueRef<'_>, b: ValueRef<'_>) -> Ordering
     }
 }
 
+/// SQL's comparison of two values that may be compared, which are two numbers or two values of one
+/// type: None exactly where one of them is NULL. Numbers compare as numbers, exactly and at any
+/// scales, texts by their UTF-8 bytes, and FALSE is below TRUE. (Values of two kinds, which SQL
+/// doesn't compare, are ordered by kind, as `order` does it.) Takes no memory.
+pub fn cmp(a: ValueRef<'_>, b: ValueRef<'_>) -> Option<Ordering>
+    ensures value { result ≡ cmp_of (seen a.entry) (seen b.entry) }
+    ensures none { IsNone result ↔ ((seen a.entry ≡ Value.Null) ⊎ (seen b.entry ≡ Value.Null)) }
+{
+    match (a, b) {
+        (ValueRef::Null, _) | (_, ValueRef::Null) => None,
+        _ => Some(order(a, b)),
+    }
+}
+
 /// The order of two rows: that of the first column from the left in which they differ, and a row
 /// stands before a longer one that begins with it. Takes no memory.
 pub fn order_rows(a: &[Value], b: &[Value]) -> Ordering
     ensures { result ≡ row_order_of a.now b.now }
 {
     for (x, y) in a.iter().zip(b) {
-        match order(x.as_value_ref(), y.as_value_ref()) {
+        match order_values(x, y) {
             Ordering::Equal => {}
             decided => return decided,
         }
     }
     a.len().cmp(&b.len())
+}
+
+// The order of two values that are not moved: whole numbers are the common case.
+#[inline]
+fn order_values(a: &Value, b: &Value) -> Ordering
+    ensures { result ≡ order_of a.now b.now }
+{
+    match (a, b) {
+        (Value::Int(x), Value::Int(y)) => x.cmp(y),
+        _ => order(a.as_value_ref(), b.as_value_ref()),
+    }
 }
 
 /// Sorts rows by `order_rows`, ascending; equal rows stay as they stood. Takes memory for more than

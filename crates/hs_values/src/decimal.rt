@@ -1,5 +1,5 @@
 // Decimals of at most 38 digits, and the same number at another scale.
-ghost use Rattle.std.specs.Prelude.{◌≡◌, ◌^◌, ◌≤◌, ◌<ℤ◌, pos, IfOk};
+ghost use Rattle.std.specs.Prelude.{◌≡◌, ◌^◌, ◌≤◌, ◌<ℤ◌, pos, int_div, IfOk};
 ghost use Rattle.hs_values.specs.Decimal.{IsDecimal, checked_of, rescaled_of};
 
 use crate::fault::EvalFault;
@@ -34,12 +34,22 @@ pub fn checked_decimal(units: i128, scale: u8) -> Result<Dec, EvalFault>
     }
 }
 
+/// The units without so many digits at their end.
+#[tactic(auto, using(crate::proofs::DecimalWidths::all_cut))]
+pub(crate) fn cut(units: i128, digits: u8) -> i128
+    ensures { result ≡ int_div units (pos (10 ^ digits)) }
+{
+    if digits > MOST_DIGITS {
+        return 0;
+    }
+    units / ten_to(digits)
+}
+
 /// The same number at another scale. At a greater scale the number is the same; at a smaller one
 /// the digits that have no place there are cut off, which is toward zero. `Range` exactly where the
 /// units at the new scale have more than 38 digits, or that scale is above 38.
 #[tactic(auto, using(crate::proofs::DecimalWidths::too_wide, crate::proofs::DecimalWidths::above), unfolding(crate::specs::Decimal::rescaled_of, crate::specs::Decimal::units_at))]
 pub fn rescale(a: Dec, scale: u8) -> Result<Dec, EvalFault>
-    requires { IsDecimal a }
     ensures value { result ≡ rescaled_of a scale }
     ensures lawful { IfOk result IsDecimal }
 {
@@ -47,7 +57,7 @@ pub fn rescale(a: Dec, scale: u8) -> Result<Dec, EvalFault>
         return Err(EvalFault::Range);
     }
     if scale < a.scale {
-        return checked_decimal(a.units / ten_to(a.scale - scale), scale);
+        return checked_decimal(cut(a.units, a.scale - scale), scale);
     }
     match a.units.checked_mul(ten_to(scale - a.scale)) {
         Some(units) => checked_decimal(units, scale),

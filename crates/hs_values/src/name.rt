@@ -40,6 +40,13 @@ impl Name {
         })
     }
 
+    /// The `String` of this name, without taking memory.
+    pub fn into_string(self) -> String
+        ensures { string_bytes result ≡ self }
+    {
+        self.text
+    }
+
     pub fn as_str(&self) -> &str
         ensures { result.now ≡ self.now }
     {

@@ -1,0 +1,89 @@
+#!/usr/bin/env bash
+# Times the program: entries a second, the growth of the time with the input, and memory.
+#
+# usage: bench/first_path.sh [ROWS]      (default: 1,000,000)
+#
+# It proves and builds the program by bin/hsql where need be, writes its inputs into a temporary folder
+# and removes that at the end. Times are the processor's, user and system, which other work on the machine
+# changes least. This is no part of the gate. The peaks of memory need GNU time as /usr/bin/time; without it
+# they are left out.
+set -eu
+top=$(cd "$(dirname "${BASH_SOURCE[0]}")/.." && pwd)
+rows=${1:-1000000}
+work=$(mktemp -d)
+trap 'rm -rf "$work"' EXIT
+
+# rows_of COUNT TABLES: that many INSERTs, in turn over the tables, with different keys in random order.
+rows_of() {
+    awk -v count="$1" -v tables="$2" 'BEGIN {
+        for (at = 1; at <= count; at++)
+            printf "a: INSERT INTO T%d VALUES (%d,%d);\n", at % tables, (at * 48271) % 2147483647, -at
+    }'
+}
+
+tables_of() {
+    awk -v tables="$1" 'BEGIN { for (at = 0; at < tables; at++) printf "a: CREATE TABLE T%d (N BIGINT, M BIGINT);\n", at }'
+}
+
+# run INPUT COMMITS: runs the program on it, and sets `seconds` of the processor and `peak`, in KiB.
+run() {
+    local user system
+    peak=0
+    if [ -x /usr/bin/time ]; then
+        /usr/bin/time -f '%U %S %M' -o "$work/spent" "$program" bench <"$1" >"$work/output"
+        read -r user system peak <"$work/spent"
+    else
+        local TIMEFORMAT='%U %S'
+        read -r user system < <({ time "$program" bench <"$1" >"$work/output"; } 2>&1)
+    fi
+    seconds=$(reckon "$user + $system" 2)
+    if [ "$(tail -n 1 "$work/output")" != "closed at $2" ]; then
+        echo "first_path.sh: the output doesn't end with 'closed at $2'" >&2
+        exit 70
+    fi
+}
+
+# median_run INPUT COMMITS: the median of three runs, and the peak of the last.
+median_run() {
+    local all=""
+    for _ in 1 2 3; do
+        run "$1" "$2"
+        all="$all $seconds"
+    done
+    seconds=$(printf '%s\n' $all | sort -g | sed -n 2p)
+}
+
+reckon() { awk "BEGIN { printf \"%.${2:-0}f\", $1 }"; }
+
+"$top/bin/hsql" bench </dev/null >/dev/null
+program="$top/crates/hsql/out/hsql"
+
+{ tables_of 1; rows_of "$rows" 1; } >"$work/once"
+{ tables_of 1; rows_of $((2 * rows)) 1; } >"$work/twice"
+{ cat "$work/once"; echo "a: SELECT * FROM T0;"; } >"$work/once_asked"
+{ cat "$work/twice"; echo "a: SELECT * FROM T0;"; } >"$work/twice_asked"
+
+median_run "$work/once_asked" $((rows + 1))
+once=$seconds once_peak=$peak
+echo "$rows INSERTs and one SELECT: $once s, $(reckon "($rows + 2) / $once") entries a second, peak $(reckon "$once_peak / 1024") MiB"
+median_run "$work/twice_asked" $((2 * rows + 1))
+echo "$((2 * rows)) INSERTs and one SELECT: $seconds s, $(reckon "(2 * $rows + 2) / $seconds") entries a second, peak $(reckon "$peak / 1024") MiB"
+echo "twice as many entries take $(reckon "$seconds / $once" 2) times as long"
+
+run "$work/once" $((rows + 1))
+kept=$peak
+run "$work/twice" $((2 * rows + 1))
+if [ "$peak" -gt 0 ]; then
+    echo "without the SELECT, each further row takes $(reckon "($peak - $kept) * 1024 / $rows") bytes of memory at the peak"
+    echo "with the SELECT, $(reckon "$once_peak * 1024 / $rows") bytes a row at the peak, all counted"
+fi
+
+# An entry's cost beside 1,000 tables of one row, and beside one table of 1,000 rows.
+more=$((rows / 2))
+{ tables_of 1000; rows_of 1000 1000; rows_of "$more" 1000; } >"$work/many"
+{ tables_of 1; rows_of 1000 1; rows_of "$more" 1; } >"$work/one"
+median_run "$work/many" $((2000 + more))
+many=$seconds
+median_run "$work/one" $((1001 + more))
+echo "1,000 tables of one row, then $more INSERTs in turn over them: $(reckon "$many * 1e9 / ($more + 2000)") ns an entry"
+echo "one table of 1,000 rows, then $more INSERTs into it: $(reckon "$seconds * 1e9 / ($more + 1001)") ns an entry"

@@ -1,0 +1,7 @@
+pub mod LongDivision
+pub mod Numerals
+pub mod PrintedText
+pub mod Raised
+pub mod ReadBack
+pub mod Signs
+pub mod Spelling

@@ -1,0 +1,3 @@
+pub mod Arithmetic
+pub mod Sign
+pub mod Text

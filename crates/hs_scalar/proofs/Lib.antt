@@ -1,0 +1,4 @@
+pub mod CharLemmas
+pub mod LetterLemmas
+pub mod LikeLemmas
+pub mod LikeLaws

@@ -1,0 +1,45 @@
+-- Fronts of what is to be written.
+use Rattle.std.proofs.Common.{◌≡◌, ℕ, ◌≤◌, List, [], ◌++◌, length, refl, sym, ◌∙◌, ap, arith, append_assoc, append-nil, length-append}
+use Rattle.hs_top.specs.Machine.{WritesFront}
+
+-- a front of a piece that stands first in what is left is a front of the whole
+pub front_on : (old mid new piece more whole : List ℕ) → mid ++ (piece ++ more) ≡ old ++ whole → length old ≤ length mid → WritesFront mid new piece → WritesFront old new whole
+front_on old mid new piece more whole left grown front = record {
+  rest = front.rest ++ more;
+  is = sym (append_assoc new front.rest more) ∙ ap (λ (l : List ℕ). l ++ more) front.is ∙ append_assoc mid piece more ∙ left;
+  grown = omega (arith, grown, front.grown);
+}
+
+-- nothing written is a front
+pub nothing_yet : (old whole : List ℕ) → WritesFront old old whole
+nothing_yet old whole = record { rest = whole; is = refl; grown = omega arith }
+
+-- a whole is its front
+pub whole_front : (old new whole : List ℕ) → new ≡ old ++ whole → WritesFront old new whole
+whole_front old new whole is = record { rest = []; is = append-nil new ∙ is; grown = omega (arith, ap length is, length-append old whole) }
+
+-- a front of what is gathered is a front of it and more
+pub front_more : (old new before piece more : List ℕ) → WritesFront old new (before ++ piece) → WritesFront old new (before ++ (piece ++ more))
+front_more old new before piece more front = record {
+  rest = front.rest ++ more;
+  is = sym (append_assoc new front.rest more) ∙ ap (λ (l : List ℕ). l ++ more) front.is ∙ append_assoc old (before ++ piece) more ∙ ap (λ (l : List ℕ). old ++ l) (append_assoc before piece more);
+  grown = front.grown;
+}
+
+-- a front of what is gathered, where something was handed over before
+pub front_after : (old mid new piece whole : List ℕ) → mid ++ piece ≡ old ++ whole → length old ≤ length mid → WritesFront mid new piece → WritesFront old new whole
+front_after old mid new piece whole left grown front = record { rest = front.rest; is = front.is ∙ left; grown = omega (arith, grown, front.grown) }
+
+-- what is gathered now stands first in what was left
+pub gathered : (written before now line rest left whole : List ℕ) → written ++ (before ++ left) ≡ whole → now ≡ before ++ line → left ≡ line ++ rest → written ++ (now ++ rest) ≡ whole
+gathered written before now line rest left whole is one first =
+    ap (λ (l : List ℕ). written ++ (l ++ rest)) one ∙ ap (λ (l : List ℕ). written ++ l) (append_assoc before line rest ∙ sym (ap (λ (l : List ℕ). before ++ l) first)) ∙ is
+
+-- handing over changes nothing of the whole
+pub handed : (written before after now rest whole : List ℕ) → after ++ now ≡ written ++ before → written ++ (before ++ rest) ≡ whole → after ++ (now ++ rest) ≡ whole
+handed written before after now rest whole same is = sym (append_assoc after now rest) ∙ ap (λ (l : List ℕ). l ++ rest) same ∙ append_assoc written before rest ∙ is
+
+-- one piece more is gathered behind another
+pub extended : (written gathered new old before piece more : List ℕ) → written ++ gathered ≡ old ++ (before ++ piece) → new ≡ gathered ++ more → written ++ new ≡ old ++ (before ++ (piece ++ more))
+extended written gathered new old before piece more is one =
+    ap (λ (l : List ℕ). written ++ l) one ∙ sym (append_assoc written gathered more) ∙ ap (λ (l : List ℕ). l ++ more) is ∙ append_assoc old (before ++ piece) more ∙ ap (λ (l : List ℕ). old ++ l) (append_assoc before piece more)

@@ -1,0 +1,10 @@
+pub mod Counts
+pub mod Digits
+pub mod Entries
+pub mod Fronts
+pub mod Limits
+pub mod Lists
+pub mod Queries
+pub mod Rows
+pub mod Runs
+pub mod Turns

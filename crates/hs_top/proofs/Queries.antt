@@ -1,0 +1,14 @@
+-- A query changes nothing.
+use Rattle.std.proofs.Common.{◌≡◌, ℕ, List, Option, Some, None, refl, sym, ap, ◌∙◌}
+use Rattle.hs_top.specs.declared.database.Database.{Database}
+use Rattle.hs_top.specs.declared.table.Table.{Table}
+use Rattle.hs_top.specs.declared.statement.Statement.{Statement}
+use Rattle.hs_top.specs.declared.statement.Statement.TheVariants.{Select}
+use Rattle.hs_top.specs.Database.{selected, performed, table_of}
+
+selected_keeps : (db : Database) (name : List ℕ) (table : Option Table) → (selected db name table).database ≡ db
+selected_keeps db name None = refl
+selected_keeps db name (Some table) = refl
+
+pub query_keeps : (db : Database) (s : Option Statement) (name : List ℕ) → s ≡ Some (Select name) → db ≡ (performed db s).database
+query_keeps db s name is = sym (ap (λ (x : Option Statement). (performed db x).database) is ∙ selected_keeps db name (table_of db.tables name))

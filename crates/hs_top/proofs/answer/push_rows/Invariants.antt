@@ -1,0 +1,14 @@
+use Rattle.std.proofs.Common.{◌≡◌, ◌≤◌, ◌++◌, length, map, drop, codes}
+use Rattle.hs_top.specs.Lines.{rows_lines}
+use Rattle.hs_top.proofs.answer.push_rows.Given as goal
+
+abbrev pub invariant-loop-row : goal.invariant-loop-row
+invariant-loop-row g l =
+    let written = g.H.Host.written in
+    record {
+      so_far : g.H.Source.tells → written l.host ++ (l.output ++ rows_lines l.number (codes "a") (map (λ r. r.now) (drop l.row-index l.rows))) ≡ written l.fn.host ++ (l.fn.output ++ rows_lines l.number (codes "a") (map (λ r. r.now) l.fn.rows));
+      grown : g.H.Source.tells → length (written l.fn.host) ≤ length (written l.host);
+      later : g.H.Host.output_faults l.fn.host ≤ g.H.Host.output_faults l.host;
+      unread : g.H.Source.unread l.host ≡ g.H.Source.unread l.fn.host;
+      faults : g.H.Source.input_faults l.host ≡ g.H.Source.input_faults l.fn.host;
+    }

@@ -1,0 +1,16 @@
+use Rattle.std.proofs.Common.{◌≡◌, ◌≤◌, ◌++◌, length}
+use Rattle.hs_top.proofs.hand_over.write_all.Given as goal
+
+abbrev pub invariant-loop-rest : goal.invariant-loop-rest
+invariant-loop-rest g l =
+    let written = g.H.Host.written in
+    record {
+      so_far : g.H.Source.tells → written l.host ++ l.rest ≡ written l.fn.host ++ l.bytes;
+      grown : g.H.Source.tells → length (written l.fn.host) ≤ length (written l.host);
+      later : g.H.Host.output_faults l.fn.host ≤ g.H.Host.output_faults l.host;
+      unread : g.H.Source.unread l.host ≡ g.H.Source.unread l.fn.host;
+      faults : g.H.Source.input_faults l.host ≡ g.H.Source.input_faults l.fn.host;
+    }
+
+abbrev pub decreases-loop-rest : goal.decreases-loop-rest
+decreases-loop-rest g l = length l.rest

@@ -1,0 +1,27 @@
+use Rattle.std.proofs.Common.{List, String, Global, ap, ◌∙◌, sym, string_bytes}
+use Rattle.std.specs.Map.{set_value}
+use Rattle.std.specs.Str.{bytes_eq}
+use Rattle.hs_values.specs.declared.value.Value.{Value}
+use Rattle.hs_top.specs.Database.{with_row}
+use Rattle.hs_top.specs.Entries.{entries_of, Entries}
+use Rattle.hs_top.proofs.Entries.{written, not_written, not_changed}
+use Rattle.hs_top.proofs.table.Tables.add_row.Goals as goal
+
+pub returns-clause-ok : goal.returns-clause-ok
+returns-clause-ok c =
+    let t = c.in-Some.table.now in
+    ap entries_of (c.get_mut.follows.holds (record { columns = t.columns; rows = c.push.new.self })).0
+    ∙ written c.self.inside.tables.entries c.args.name.now t _ c.args.row c.in-Some.ensures.value (ap (λ (rows : List (List Value)). record { columns = t.columns; rows = rows }) c.in_default-push.ensures.ok)
+    ∙ ap (λ (z : Entries). with_row z c.args.name.now c.args.row) c.self.view_is
+
+pub returns-in-Err-clause-err : goal.returns-in-Err-clause-err
+returns-in-Err-clause-err c =
+    let t = c.in-Some.table.now in
+    ap entries_of ((c.get_mut.follows.holds (record { columns = t.columns; rows = c.push.new.self })).0)
+    ∙ ap (λ (rows : List (List Value)). entries_of (set_value (λ (k : String Global). bytes_eq c.args.name.now (string_bytes k)) c.self.inside.tables.entries (record { columns = t.columns; rows = rows }))) c.in-Err.ensures.err
+    ∙ not_changed c.self.inside.tables.entries c.args.name.now t c.in-Some.ensures.value ∙ c.self.view_is
+
+pub returns-in_default-clause-ok : goal.returns-in_default-clause-ok
+returns-in_default-clause-ok c =
+    let es = c.self.inside.tables.entries in
+    ap (λ m. entries_of m.entries) c.get_mut.follows.holds-at-none ∙ sym (not_written es c.args.name.now c.args.row c.in_default.ensures.value) ∙ ap (λ (z : Entries). with_row z c.args.name.now c.args.row) c.self.view_is

@@ -1,0 +1,9 @@
+pub mod Command
+pub mod Database
+pub mod Entries
+pub mod Items
+pub mod Lines
+pub mod Machine
+pub mod Reader
+pub mod Running
+pub mod Statement

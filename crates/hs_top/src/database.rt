@@ -1,0 +1,112 @@
+// The database, and what statements do to it.
+ghost use Rattle.std.specs.Prelude.{◌≡◌, ◌<◌, ◌^◌, ◌≤◌, ◌+◌, [], ℕ, List, Option, None, Some, map, length, IfOk, IfSome, MatchOption};
+ghost use Rattle.std.specs.Option.{option_copied};
+ghost use Rattle.hs_values.specs.Sorted.{sorted_rows};
+ghost use Rattle.hs_top.specs.declared.statement.Statement.{Statement};
+ghost use Rattle.hs_top.specs.Database.{new_database, table_of, is_among, first_repeated, executed};
+
+use crate::names::Names;
+use crate::refusal::Refusal;
+use crate::reply::Reply;
+use crate::table::{MOST_TABLES, Table, Tables};
+use hs_values::{Name, Row, RowList, sort_rows};
+use std::alloc::{AllocError, Global};
+
+/// Tables, and how many commits made them.
+#[derive(Drop)]
+pub struct Database {
+    pub tables: Tables,
+    pub commits: u64,
+}
+
+impl Database {
+    /// No table and no commit. Takes no memory.
+    pub fn new(alloc: Global) -> Database
+        ensures { result ≡ new_database }
+    {
+        Database {
+            tables: Tables::new(alloc),
+            commits: 0,
+        }
+    }
+
+    /// Makes a table without rows.
+    pub fn create(&mut self, alloc: Global, name: Name, columns: Names) -> Result<Reply, AllocError>
+        requires { self.old.commits < 2 ^ 63 }
+        ensures { IfOk result (λ reply. executed self.old (Statement.Create name columns) ≡ record { rows = []; reply = reply; database = self.new }) }
+    {
+        if self.tables.table(name.as_str()).is_some() {
+            return Ok(Reply::Refused(Refusal::Exists(name)));
+        }
+        if let Some(column) = first_repeated(columns.as_slice()) {
+            return Ok(Reply::Refused(Refusal::Exists(column.copy()?)));
+        }
+        if self.tables.len() >= MOST_TABLES {
+            return Ok(Reply::Refused(Refusal::NotBuilt));
+        }
+        let table = Table {
+            columns,
+            rows: RowList::new(alloc),
+        };
+        self.tables.add(name, table)?;
+        Ok(self.commit(None))
+    }
+
+    /// Puts a row into a table.
+    pub fn insert(&mut self, name: Name, row: Row) -> Result<Reply, AllocError>
+        requires { self.old.commits < 2 ^ 63 }
+        ensures { IfOk result (λ reply. executed self.old (Statement.Insert name row) ≡ record { rows = []; reply = reply; database = self.new }) }
+    {
+        let Some(table) = self.tables.table(name.as_str()) else {
+            return Ok(Reply::Refused(Refusal::NoSuch(name)));
+        };
+        if row.len() != table.columns.len() {
+            return Ok(Reply::Refused(Refusal::NotBuilt));
+        }
+        self.tables.add_row(name.as_str(), row)?;
+        Ok(self.commit(Some(1)))
+    }
+
+    // Counts a commit.
+    fn commit(&mut self, count: Option<u64>) -> Reply
+        requires { self.old.commits < 2 ^ 63 }
+        ensures reply { result ≡ Reply.Done count (Some (self.old.commits + 1)) }
+        ensures counted { self.new ≡ record self.old { commits = self.old.commits + 1 } }
+    {
+        self.commits += 1;
+        Reply::Done {
+            count,
+            committed: Some(self.commits),
+        }
+    }
+}
+
+// The first name that repeats an earlier one.
+fn first_repeated(names: &[Name]) -> Option<&Name>
+    ensures { option_copied result ≡ first_repeated [] names.now }
+{
+    for (at, name) in names.iter().enumerate() {
+        if is_among(name, &names[..at]) {
+            return Some(name);
+        }
+    }
+    None
+}
+
+fn is_among(name: &Name, names: &[Name]) -> bool
+    ensures { result ≡ is_among name.now names.now }
+{
+    names.iter().any(|n| name.as_str() == n.as_str())
+}
+
+/// The rows of a table in ascending order of all columns from the left.
+pub fn sorted(alloc: Global, table: &Table) -> Result<Vec<&Row>, AllocError>
+    ensures { IfOk result (λ rows. map (λ r. r.now) rows.items ≡ sorted_rows table.now.rows) }
+{
+    let mut rows = Vec::with_capacity(alloc, table.rows.len())?;
+    for row in table.rows.as_slice() {
+        rows.push(row)?;
+    }
+    sort_rows(&mut rows)?;
+    Ok(rows)
+}

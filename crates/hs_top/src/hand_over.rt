@@ -1,0 +1,69 @@
+// Hands output over to the host.
+ghost use Rattle.std.specs.Prelude.{◌≡◌, ◌⊎◌, ℕ, ◌≤◌, [], List, ◌++◌, OnOk, OnErr, IsErrOf};
+ghost use Rattle.hs_host.specs.Host.{HasCause, Rose};
+ghost use Rattle.hs_top.specs.Machine.{WritesFront};
+
+use crate::output::Output;
+use crate::status::Status;
+use hs_host::{Host, HostFault};
+
+/// How much output is gathered before it is handed over.
+const MOST_GATHERED: usize = 65_536;
+
+/// Hands over all that is gathered.
+pub fn hand_over<H: Host>(output: &mut Output, host: &mut H) -> Result<(), Status>
+    ensures empty { OnOk result (output.new ≡ []) }
+    ensures done { H.tells → OnOk result (H.written host.new ≡ H.written host.old ++ output.old) }
+    ensures front { H.tells → WritesFront (H.written host.old) (H.written host.new) output.old }
+    ensures output_fault { IsErrOf result Status.OutputFault → Rose (H.output_faults host.old) (H.output_faults host.new) }
+    ensures only { IsErrOf result Status.Done ⊎ (IsErrOf result Status.Usage ⊎ (IsErrOf result Status.InputFault ⊎ IsErrOf result Status.InputTooLong)) → ⊥ }
+    ensures later { H.output_faults host.old ≤ H.output_faults host.new }
+    ensures unread { H.unread host.new ≡ H.unread host.old }
+    ensures input_faults { H.input_faults host.new ≡ H.input_faults host.old }
+{
+    write_all(host, output.as_bytes())?;
+    output.clear();
+    Ok(())
+}
+
+/// Hands over what is gathered, where it is much.
+#[tactic(auto, using(crate::proofs::Fronts::nothing_yet))]
+pub fn hand_over_much<H: Host>(output: &mut Output, host: &mut H) -> Result<(), Status>
+    ensures done { H.tells → OnOk result (H.written host.new ++ output.new ≡ H.written host.old ++ output.old) }
+    ensures front { H.tells → WritesFront (H.written host.old) (H.written host.new) output.old }
+    ensures output_fault { IsErrOf result Status.OutputFault → Rose (H.output_faults host.old) (H.output_faults host.new) }
+    ensures only { IsErrOf result Status.Done ⊎ (IsErrOf result Status.Usage ⊎ (IsErrOf result Status.InputFault ⊎ IsErrOf result Status.InputTooLong)) → ⊥ }
+    ensures later { H.output_faults host.old ≤ H.output_faults host.new }
+    ensures unread { H.unread host.new ≡ H.unread host.old }
+    ensures input_faults { H.input_faults host.new ≡ H.input_faults host.old }
+{
+    if output.len() < MOST_GATHERED {
+        return Ok(());
+    }
+    hand_over(output, host)
+}
+
+// Writes all the bytes.
+fn write_all<H: Host>(host: &mut H, bytes: &[u8]) -> Result<(), Status>
+    ensures done { H.tells → OnOk result (H.written host.new ≡ H.written host.old ++ bytes.now) }
+    ensures front { H.tells → WritesFront (H.written host.old) (H.written host.new) bytes.now }
+    ensures output_fault { IsErrOf result Status.OutputFault → Rose (H.output_faults host.old) (H.output_faults host.new) }
+    ensures only { IsErrOf result Status.Done ⊎ (IsErrOf result Status.Usage ⊎ (IsErrOf result Status.InputFault ⊎ IsErrOf result Status.InputTooLong)) → ⊥ }
+    ensures later { H.output_faults host.old ≤ H.output_faults host.new }
+    ensures unread { H.unread host.new ≡ H.unread host.old }
+    ensures input_faults { H.input_faults host.new ≡ H.input_faults host.old }
+{
+    let mut rest = bytes;
+    while !rest.is_empty() {
+        let count = match host.write_output(rest) {
+            Ok(count) => count,
+            Err(HostFault::Fault) => return Err(Status::OutputFault),
+            Err(HostFault::NoMemory) => return Err(Status::NoMemory),
+        };
+        if count == 0 {
+            return Err(Status::OutputFault);
+        }
+        rest = &rest[count..];
+    }
+    Ok(())
+}
