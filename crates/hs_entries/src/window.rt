@@ -25,11 +25,16 @@ pub enum Look {
 #[derive(Drop)]
 pub struct Window {
     buffer: Vec<u8>,
+    // The bytes from here to `first` are skipped.
     start: usize,
+    // Those to `at` are begun.
     first: usize,
+    // Those to `end` weren't looked at.
     at: usize,
     end: usize,
+    // To this place the bytes up to `at` lead.
     place: Place,
+    // So many more bytes may be used behind `at`.
     room: u64,
 }
 
