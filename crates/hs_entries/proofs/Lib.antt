@@ -1,0 +1,7 @@
+pub mod ItemSteps
+pub mod Leading
+pub mod LeftSteps
+pub mod Looking
+pub mod Sessions
+pub mod Spans
+pub mod Spelled

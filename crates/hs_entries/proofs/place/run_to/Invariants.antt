@@ -1,0 +1,13 @@
+use Rattle.std.proofs.Common.{◌≡◌, ◌-◌, ◌≤◌, Some, length, take}
+use Rattle.hs_entries.specs.Place.{leads}
+use Rattle.hs_entries.proofs.place.run_to.Given as goal
+
+abbrev pub invariant-loop-count : goal.invariant-loop-count
+invariant-loop-count l =
+    record {
+      within : l.count ≤ length l.bytes;
+      leads : leads l.fn.place (take l.count l.bytes) ≡ Some l.fn.place;
+    }
+
+abbrev pub decreases-loop-count : goal.decreases-loop-count
+decreases-loop-count l = length l.bytes - l.count

@@ -1,0 +1,23 @@
+use Rattle.std.proofs.Common.{◌≡◌, ◌+◌, ◌^◌, ◌≤◌, ◌<◌, length}
+use Rattle.hs_entries.specs.Left.{Continues}
+use Rattle.hs_entries.specs.Window.{IsFresh}
+use Rattle.hs_entries.specs.Reader.{left_within, room, ahead}
+use Rattle.hs_entries.proofs.reader.EntryReader.skip_from.Given as goal
+
+abbrev pub invariant-skims : goal.invariant-skims
+invariant-skims g l =
+    record {
+      continues : g.S.Source.tells → Continues (left_within l.fn.self l.fn.from (g.S.Source.unread l.fn.source)) (left_within l.self l.place (g.S.Source.unread l.source));
+      fresh : IsFresh l.self.window;
+      some : 0 < length (ahead l.self);
+      number : l.self.count + 1 + room l.self < 2 ^ 64;
+      count : l.self.count ≡ l.fn.self.count;
+      shrinks : room l.self ≤ room l.fn.self;
+      grows : room l.self + length (ahead l.fn.self) ≤ room l.fn.self + length (ahead l.self);
+      kept : l.self.kept ≡ l.fn.self.kept;
+      later : g.S.Source.input_faults l.fn.source ≤ g.S.Source.input_faults l.source;
+      only : g.S.Source.only_input l.fn.source l.source;
+    }
+
+abbrev pub decreases-skims : goal.decreases-skims
+decreases-skims g l = room l.self

@@ -1,0 +1,7 @@
+pub mod Entry
+pub mod Items
+pub mod Left
+pub mod Parts
+pub mod Place
+pub mod Reader
+pub mod Window

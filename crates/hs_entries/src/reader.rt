@@ -1,0 +1,338 @@
+// Reads the items of the input.
+ghost use Rattle.std.specs.Prelude.{◌≡◌, true, false, ℕ, ◌+◌, ◌-◌, ◌<◌, ◌≤◌, ◌^◌, List, [], ◌++◌, length, None, Some, IfOk, IfErr, IfSome, IfNone, OnOk, IsErrOf, MatchOption};
+ghost use Rattle.std.proofs.Props.{props};
+ghost use Rattle.hs_host.specs.Host.{Rose};
+ghost use Rattle.hs_entries.specs.Place.{is_entry};
+ghost use Rattle.hs_entries.specs.Left.{TakesFirst, TakesWhole, RunsOut, IsBeyond, IsNumbered, KeepsRoom, Takes, Continues};
+ghost use Rattle.hs_entries.specs.Window.{IsSound, IsAtEnd, IsFresh, left_of, begun_of, room_of};
+
+use crate::entry::{cut_entry, read_entry};
+use crate::input_fault::InputFault;
+use crate::item::{Item, MOST_BYTES};
+use crate::place::{Place, scan};
+use crate::window::{Look, Window};
+use hs_host::Source;
+use std::alloc::{AllocError, Global};
+
+/// Reads the items of the input of a source, up to a limit of bytes.
+#[derive(Drop)]
+pub struct EntryReader {
+    alloc: Global,
+    window: Window,
+    count: u64,
+    kept: Option<InputFault>,
+    ghost sound: { IsSound window } by { Prim.hlevel props },
+    ghost numbers: { count + room_of window < 2 ^ 64 },
+}
+
+impl EntryReader {
+    ghost use Rattle.hs_entries.specs.Reader.{ahead, room, next_number, kept, is_ready as ready, is_at_hand, finds, left, left_within, left_items, left_whole, Shrinks, Grows, Skims, cut_at};
+
+    /// A reader of a source of which at most `limit` bytes are used. Takes no memory: the first `next` takes
+    /// that for the bytes at hand.
+    pub fn new(alloc: Global, limit: u64) -> EntryReader
+        ensures ahead { ahead result ≡ [] }
+        ensures room { room result ≡ limit }
+        ensures number { next_number result ≡ 1 }
+        ensures kept { kept result ≡ None }
+    {
+        EntryReader {
+            alloc,
+            window: Window::new(alloc, limit),
+            count: 0,
+            kept: None,
+        }
+    }
+
+    /// Whether the answer of `next` is at hand, so that `next` makes no call of the source. Takes no memory,
+    /// and remembers how far it looked.
+    pub fn is_ready(&mut self) -> bool
+        ensures ready { result ≡ ready self.old }
+        ensures ahead { ahead self.new ≡ ahead self.old }
+        ensures room { room self.new ≡ room self.old }
+        ensures number { next_number self.new ≡ next_number self.old }
+        ensures kept { kept self.new ≡ kept self.old }
+    {
+        self.kept.is_some() || self.look() != Look::Nothing
+    }
+
+    // Looks for the next item among the bytes at hand.
+    fn look(&mut self) -> Look
+        ensures entry { result ≡ Look.Entry → IsAtEnd self.new.window }
+        ensures limit { result ≡ Look.Limit → (self.new.window.room ≡ 0) × (0 < length (left_of self.new.window)) }
+        ensures nothing { result ≡ Look.Nothing → left_of self.new.window ≡ [] }
+        ensures at_hand { finds result ≡ is_at_hand self.old }
+        ensures ahead { ahead self.new ≡ ahead self.old }
+        ensures room { room self.new ≡ room self.old }
+        ensures count { self.new.count ≡ self.old.count }
+        ensures kept { self.new.kept ≡ self.old.kept }
+    {
+        self.window.look()
+    }
+
+    /// The next item of the input. It asks for input only where it needs a byte and has none left. A fault is
+    /// kept: each later call answers it again, without a call of the source.
+    ///
+    /// `Fault` comes only where a read of the source failed in this call. `TooLong` comes exactly where the
+    /// next item isn't whole, up to its `;`, within the limit, the input has more, and no read of this call
+    /// fails first. `NoMemory` is free.
+    pub fn next<S: Source>(&mut self, source: &mut S) -> Result<Item, InputFault>
+        // The items are those of the bytes at hand and then those that the source has left.
+        ensures item { S.tells → IfOk result (λ item. TakesFirst (left_items self.old (S.unread source.old)) item (left_items self.new (S.unread source.new))) }
+        ensures number { IfOk result (λ item. IsNumbered item (next_number self.old) (next_number self.new)) }
+        ensures end { S.tells → IfOk result (λ item. item ≡ Item.End → ahead self.new ++ S.unread source.new ≡ []) }
+        ensures shrinks { IfOk result (λ item. Shrinks item (room self.old) (room self.new)) }
+
+        // Within the limit.
+        ensures whole { S.tells → IfOk result (λ item. RunsOut (left self.old (S.unread source.old)) → TakesWhole (left_whole self.old (S.unread source.old)) item (left_whole self.new (S.unread source.new))) }
+        ensures used { S.tells → OnOk result (KeepsRoom (left self.old (S.unread source.old)) (left self.new (S.unread source.new))) }
+        ensures too_long { S.tells → kept self.old ≡ None → IsErrOf result InputFault.TooLong → IsBeyond (left self.old (S.unread source.old)) }
+        ensures beyond { kept self.old ≡ None → IsErrOf result InputFault.TooLong → room self.new < length (ahead self.new) }
+
+        // Faults, and what is kept of them.
+        ensures fault { kept self.old ≡ None → IsErrOf result InputFault.Fault → Rose (S.input_faults source.old) (S.input_faults source.new) }
+        ensures kept { IfErr result (λ fault. kept self.new ≡ Some fault) }
+        ensures ok { OnOk result ((kept self.old ≡ None) × (kept self.new ≡ None)) }
+        ensures again { IfSome (kept self.old) (λ fault. (result ≡ Err fault) × (self.new ≡ self.old)) }
+
+        // The source.
+        ensures ready { ready self.old ≡ true → source.new ≡ source.old }
+        ensures later { S.input_faults source.old ≤ S.input_faults source.new }
+        ensures only { S.only_input source.old source.new }
+    {
+        if let Some(fault) = self.kept {
+            return Err(fault);
+        }
+        let item = self.read_item(source);
+        if let Err(fault) = &item {
+            self.kept = Some(*fault);
+        }
+        item
+    }
+
+    // The next item, for a reader that keeps no fault.
+    fn read_item<S: Source>(&mut self, source: &mut S) -> Result<Item, InputFault>
+        ensures takes { S.tells → IfOk result (λ item. Takes (left self.old (S.unread source.old)) item (left self.new (S.unread source.new))) }
+        ensures number { IfOk result (λ item. IsNumbered item (next_number self.old) (next_number self.new)) }
+        ensures shrinks { IfOk result (λ item. Shrinks item (room self.old) (room self.new)) }
+        ensures beyond { S.tells → IsErrOf result InputFault.TooLong → IsBeyond (left self.old (S.unread source.old)) }
+        ensures past { IsErrOf result InputFault.TooLong → room self.new < length (ahead self.new) }
+        ensures fault { IsErrOf result InputFault.Fault → Rose (S.input_faults source.old) (S.input_faults source.new) }
+        ensures ready { is_at_hand self.old ≡ true → source.new ≡ source.old }
+        ensures kept { self.new.kept ≡ self.old.kept }
+        ensures later { S.input_faults source.old ≤ S.input_faults source.new }
+        ensures only { S.only_input source.old source.new }
+    {
+        'items: loop {
+            match self.look() {
+                Look::Entry => return Ok(self.entry_at_hand()?),
+                Look::Limit => return Err(InputFault::TooLong),
+                Look::Nothing => {}
+            }
+            if let Some(item) = self.read_on(source)? {
+                return Ok(item);
+            }
+        }
+    }
+
+    // The entry that ends with the next byte.
+    fn entry_at_hand(&mut self) -> Result<Item, AllocError>
+        requires found { IsAtEnd self.old.window }
+        ensures takes { IfOk result (λ item. (rest : List ℕ) → Takes (left self.old rest) item (left self.new rest)) }
+        ensures number { IfOk result (λ item. IsNumbered item (next_number self.old) (next_number self.new)) }
+        ensures shrinks { OnOk result (room self.new < room self.old) }
+        ensures kept { self.new.kept ≡ self.old.kept }
+    {
+        let item = read_entry(self.alloc, self.count + 1, self.window.entry())?;
+        self.window.use_to(1);
+        self.count += 1;
+        Ok(item)
+    }
+
+    // Reads more bytes. Answers the item, if the input ends or an entry is too long to be kept.
+    fn read_on<S: Source>(&mut self, source: &mut S) -> Result<Option<Item>, InputFault>
+        requires looked { left_of self.old.window ≡ [] }
+        ensures none { S.tells → IfOk result (λ item. IfNone item (Continues (left self.old (S.unread source.old)) (left self.new (S.unread source.new)))) }
+        ensures some { S.tells → IfOk result (λ item. IfSome item (λ i. Takes (left self.old (S.unread source.old)) i (left self.new (S.unread source.new)))) }
+        ensures number { IfOk result (λ item. MatchOption item (next_number self.new ≡ next_number self.old) (λ i. IsNumbered i (next_number self.old) (next_number self.new))) }
+        ensures grows { IfOk result (λ item. IfNone item (Grows self.old self.new)) }
+        ensures shrinks { IfOk result (λ item. MatchOption item (room self.new ≤ room self.old) (λ i. Shrinks i (room self.old) (room self.new))) }
+        ensures beyond { S.tells → IsErrOf result InputFault.TooLong → IsBeyond (left self.old (S.unread source.old)) }
+        ensures past { IsErrOf result InputFault.TooLong → room self.new < length (ahead self.new) }
+        ensures fault { IsErrOf result InputFault.Fault → Rose (S.input_faults source.old) (S.input_faults source.new) }
+        ensures kept { self.new.kept ≡ self.old.kept }
+        ensures later { S.input_faults source.old ≤ S.input_faults source.new }
+        ensures only { S.only_input source.old source.new }
+    {
+        if self.window.is_full() {
+            return self.skip_long(source);
+        }
+        if self.refill(source)? {
+            return Ok(None);
+        }
+        Ok(Some(self.cut_at_end()))
+    }
+
+    // Reads more bytes behind those that are begun, and answers whether any came.
+    fn refill<S: Source>(&mut self, source: &mut S) -> Result<bool, InputFault>
+        requires looked { left_of self.old.window ≡ [] }
+        requires kept { length (begun_of self.old.window) < MOST_BYTES }
+        ensures continues { S.tells → OnOk result (Continues (left self.old (S.unread source.old)) (left self.new (S.unread source.new))) }
+        ensures bytes { S.tells → IsFresh self.old.window → OnOk result (ahead self.new ++ S.unread source.new ≡ ahead self.old ++ S.unread source.old) }
+        ensures fresh { IsFresh self.old.window → OnOk result (IsFresh self.new.window) }
+        ensures begun { OnOk result (begun_of self.new.window ≡ begun_of self.old.window) }
+        ensures room { room self.new ≤ room self.old }
+        ensures fresh_room { IsFresh self.old.window → OnOk result (room self.new ≡ room self.old) }
+        ensures more { IfOk result (λ more. more ≡ true → Grows self.old self.new) }
+        ensures none { IfOk result (λ more. more ≡ false → left_of self.new.window ≡ []) }
+        ensures end { S.tells → IfOk result (λ more. more ≡ false → S.unread source.new ≡ []) }
+        ensures count { self.new.count ≡ self.old.count }
+        ensures kept { self.new.kept ≡ self.old.kept }
+        ensures fault { IsErrOf result InputFault.Fault → Rose (S.input_faults source.old) (S.input_faults source.new) }
+        ensures too_long { IsErrOf result InputFault.TooLong → ⊥ }
+        ensures later { S.input_faults source.old ≤ S.input_faults source.new }
+        ensures only { S.only_input source.old source.new }
+    {
+        let more = self.window.refill(source)?;
+        Ok(more)
+    }
+
+    // The item of what is begun where the input ends.
+    fn cut_at_end(&mut self) -> Item
+        requires looked { left_of self.old.window ≡ [] }
+        requires short { length (begun_of self.old.window) ≤ MOST_BYTES }
+        ensures takes { Takes (left self.old []) result (left self.new []) }
+        ensures number { IsNumbered result (next_number self.old) (next_number self.new) }
+        ensures shrinks { Shrinks result (room self.old) (room self.new) }
+        ensures kept { self.new.kept ≡ self.old.kept }
+    {
+        let place = self.window.place();
+        self.window.use_to(0);
+        self.cut_item(place, false)
+    }
+
+    // Goes to the end of an entry, or of a comment between two entries, of which no further byte can be kept.
+    fn skip_long<S: Source>(&mut self, source: &mut S) -> Result<Option<Item>, InputFault>
+        requires looked { left_of self.old.window ≡ [] }
+        requires full { length (begun_of self.old.window) ≡ MOST_BYTES }
+        ensures none { S.tells → IfOk result (λ item. IfNone item (Continues (left self.old (S.unread source.old)) (left self.new (S.unread source.new)))) }
+        ensures some { S.tells → IfOk result (λ item. IfSome item (λ i. Takes (left self.old (S.unread source.old)) i (left self.new (S.unread source.new)))) }
+        ensures number { IfOk result (λ item. MatchOption item (next_number self.new ≡ next_number self.old) (λ i. IsNumbered i (next_number self.old) (next_number self.new))) }
+        ensures grows { IfOk result (λ item. IfNone item (Grows self.old self.new)) }
+        ensures shrinks { OnOk result (room self.new < room self.old) }
+        ensures beyond { S.tells → IsErrOf result InputFault.TooLong → IsBeyond (left self.old (S.unread source.old)) }
+        ensures past { IsErrOf result InputFault.TooLong → room self.new < length (ahead self.new) }
+        ensures fault { IsErrOf result InputFault.Fault → Rose (S.input_faults source.old) (S.input_faults source.new) }
+        ensures kept { self.new.kept ≡ self.old.kept }
+        ensures later { S.input_faults source.old ≤ S.input_faults source.new }
+        ensures only { S.only_input source.old source.new }
+    {
+        let place = self.window.place();
+        self.window.use_to(0);
+        if self.refill(source)? {
+            self.skip_from(place, source)
+        } else {
+            Ok(Some(self.cut_item(place, false)))
+        }
+    }
+
+    // Goes on from a place in an entry, or in a comment between two entries, that is too long to be kept.
+    fn skip_from<S: Source>(
+        &mut self,
+        from: Place,
+        source: &mut S,
+    ) -> Result<Option<Item>, InputFault>
+        requires fresh { IsFresh self.old.window }
+        requires some { 0 < length (ahead self.old) }
+        requires number { self.old.count + 1 + room self.old < 2 ^ 64 }
+        ensures none { S.tells → IfOk result (λ item. IfNone item (Continues (left_within self.old from (S.unread source.old)) (left self.new (S.unread source.new)))) }
+        ensures some { S.tells → IfOk result (λ item. IfSome item (λ i. Takes (left_within self.old from (S.unread source.old)) i (left self.new (S.unread source.new)))) }
+        ensures number { IfOk result (λ item. MatchOption item (next_number self.new ≡ next_number self.old) (λ i. IsNumbered i (next_number self.old) (next_number self.new))) }
+        ensures grows { OnOk result (room self.new + length (ahead self.old) ≤ room self.old + length (ahead self.new)) }
+        ensures shrinks { OnOk result (room self.new ≤ room self.old) }
+        ensures beyond { S.tells → IsErrOf result InputFault.TooLong → IsBeyond (left_within self.old from (S.unread source.old)) }
+        ensures past { IsErrOf result InputFault.TooLong → room self.new < length (ahead self.new) }
+        ensures fault { IsErrOf result InputFault.Fault → Rose (S.input_faults source.old) (S.input_faults source.new) }
+        ensures kept { self.new.kept ≡ self.old.kept }
+        ensures later { S.input_faults source.old ≤ S.input_faults source.new }
+        ensures only { S.only_input source.old source.new }
+    {
+        let mut place = from;
+        'skims: loop {
+            match self.skim(place) {
+                Skim::Entry => return Ok(Some(self.long_item())),
+                Skim::Skipped => return Ok(None),
+                Skim::Limit => return Err(InputFault::TooLong),
+                Skim::Nothing(next) => place = next,
+            }
+            if !self.refill(source)? {
+                return Ok(Some(self.cut_item(place, true)));
+            }
+        }
+    }
+
+    // Uses the bytes at hand from a place on, up to the `;` of an entry or the end of a comment.
+    fn skim(&mut self, from: Place) -> Skim
+        requires fresh { IsFresh self.old.window }
+        ensures fresh { IsFresh self.new.window }
+        ensures skims { (rest : List ℕ) → Skims self.old from rest result self.new }
+        ensures uses { room self.new + length (ahead self.old) ≡ room self.old + length (ahead self.new) }
+        ensures shrinks { room self.new ≤ room self.old }
+        ensures count { self.new.count ≡ self.old.count }
+        ensures kept { self.new.kept ≡ self.old.kept }
+    {
+        let bytes = self.window.in_limit();
+        let most = bytes.len();
+        let scanned = scan(from, bytes);
+        if scanned.count == most {
+            self.window.use_to(scanned.count);
+            return if self.window.has_more() {
+                Skim::Limit
+            } else {
+                Skim::Nothing(scanned.place)
+            };
+        }
+        let is_entry = scanned.place.ends(bytes[scanned.count]);
+        self.window.use_to(scanned.count + 1);
+        if is_entry { Skim::Entry } else { Skim::Skipped }
+    }
+
+    // The item of an entry that is too long.
+    fn long_item(&mut self) -> Item
+        requires number { self.old.count + 1 + room self.old < 2 ^ 64 }
+        ensures item { result ≡ Item.TooLong (next_number self.old) }
+        ensures number { next_number self.new ≡ next_number self.old + 1 }
+        ensures window { self.new.window ≡ self.old.window }
+        ensures kept { self.new.kept ≡ self.old.kept }
+    {
+        self.count += 1;
+        Item::TooLong { number: self.count }
+    }
+
+    // The item of an entry or a comment that leads to a place, where the input ends.
+    fn cut_item(&mut self, place: Place, is_too_long: bool) -> Item
+        requires number { is_entry place ≡ true → self.old.count + 1 + room self.old < 2 ^ 64 }
+        ensures item { result ≡ cut_at place is_too_long (next_number self.old) }
+        ensures number { IsNumbered result (next_number self.old) (next_number self.new) }
+        ensures window { self.new.window ≡ self.old.window }
+        ensures kept { self.new.kept ≡ self.old.kept }
+    {
+        if !place.is_entry() {
+            return Item::End;
+        }
+        self.count += 1;
+        cut_entry(self.count, is_too_long)
+    }
+}
+
+// What comes next where bytes are used without being kept.
+enum Skim {
+    // The entry has ended.
+    Entry,
+    // The comment has ended.
+    Skipped,
+    // A byte beyond the limit.
+    Limit,
+    // No byte is at hand. The bytes lead to this place.
+    Nothing(Place),
+}
