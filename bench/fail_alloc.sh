@@ -1,39 +1,43 @@
 #!/usr/bin/env bash
-# Lets each allocation of the program fail in turn, on the input of its test.
+# Refuses each allocation of the built program in turn, on the first example, each time over a new database.
 #
-# usage: bench/fail_alloc.sh [FIRST [LAST]]      (default: 1 400)
+# usage: bench/fail_alloc.sh
 #
-# A run whose allocation fails must end with status 5 and a front of the test's output. Once the number
-# is past the last allocation, the run ends with status 0 and the whole output; after five such runs in a
-# row the loop stops. Each run takes some seconds. `rt try` proves nothing, and this is no part of the gate.
+# A run whose allocation is refused must end with status 5 and a front of the example's output, and the log that
+# it leaves must open at a commit, and not before one that was told. Past the last allocation the run ends
+# with status 0 and the whole output, and the loop stops. It needs a C compiler, since the allocations are
+# refused by a library that is loaded before the C library's. A single one can be refused, before any proof,
+# by `rt try --fail-alloc NUMBER`. This is no part of the gate.
 set -eu
 top=$(cd "$(dirname "${BASH_SOURCE[0]}")/.." && pwd)
-first=${1:-1} last=${2:-400}
 work=$(mktemp -d)
 trap 'rm -rf "$work"' EXIT
-cd "$top/crates/hsql"
-whole=$(wc -c <stdout)
-failed=0 fronts=0 done_in_a_row=0
-for ((number = first; number <= last && done_in_a_row < 5; number++)); do
+cc -O2 -shared -fPIC -o "$work/refuse_alloc.so" "$top/bench/refuse_alloc.c" -ldl
+"$top/bin/hsql" "$work/built" </dev/null >/dev/null
+program="$top/crates/hsql/out/hsql"
+
+fail() {
+    echo "fail_alloc.sh: at allocation $number $1" >&2
+    exit 1
+}
+
+fronts=0
+for ((number = 1; number < 1000; number++)); do
+    rm -f "$work"/db.*
     status=0
-    rt try --fail-alloc "$number" -- demo <stdin >"$work/output" 2>"$work/log" || status=$?
+    REFUSE_AT=$number LD_PRELOAD="$work/refuse_alloc.so" "$program" "$work/db" \
+        <"$top/examples/first.sql" >"$work/output" 2>"$work/errors" || status=$?
     size=$(wc -c <"$work/output")
-    if [ "$size" -gt "$whole" ] || ! cmp -s <(head -c "$size" stdout) "$work/output"; then
-        echo "fail_alloc.sh: at allocation $number the output is no front of the expected one" >&2
-        exit 1
+    cmp -s <(head -c "$size" "$top/examples/first.out") "$work/output" || fail "the output is no front of the expected one"
+    if [ "$status" = 0 ]; then
+        cmp -s "$top/examples/first.out" "$work/output" || fail "the output isn't whole"
+        echo "$((number - 1)) allocations were refused in turn: each run ended with status 5 and a front of the output, $fronts of them not empty"
+        exit 0
     fi
-    if [ "$status" = 5 ]; then
-        failed=$((failed + 1)) done_in_a_row=0
-        [ "$size" = 0 ] || fronts=$((fronts + 1))
-    elif [ "$status" = 0 ] && [ "$size" = "$whole" ]; then
-        done_in_a_row=$((done_in_a_row + 1))
-    else
-        echo "fail_alloc.sh: at allocation $number the status is $status, with $size bytes of output" >&2
-        cat "$work/log" >&2
-        exit 1
-    fi
+    [ "$status" = 5 ] || fail "the status is $status"
+    [ "$size" = 0 ] || fronts=$((fronts + 1))
+    "$program" "$work/db" </dev/null >"$work/again" || fail "the log that is left isn't opened"
+    opened=$(sed -n '1s/opened at //p' "$work/again")
+    [ "$opened" -ge "$(grep -c ' committed ' "$work/output")" ] || fail "a commit that was told is lost"
 done
-echo "from allocation $first on $failed failed in turn: each run ended with status 5 and a front of the output, $fronts of them not empty"
-if [ "$done_in_a_row" -lt 5 ]; then
-    echo "allocation $last may not be past the last one: go on from $((last + 1))"
-fi
+fail "no run was whole"

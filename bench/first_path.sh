@@ -3,14 +3,14 @@
 #
 # usage: bench/first_path.sh [ROWS]      (default: 1,000,000)
 #
-# It proves and builds the program by bin/hsql where need be, writes its inputs into a temporary folder
-# and removes that at the end. Times are the processor's, user and system, which other work on the machine
+# It proves and builds the program by bin/hsql where need be, writes its inputs and the databases into a folder in memory
+# below /dev/shm, where a sync costs a call alone, and removes that at the end. Times are the processor's, user and system, which other work on the machine
 # changes least. This is no part of the gate. The peaks of memory need GNU time as /usr/bin/time; without it
 # they are left out.
 set -eu
 top=$(cd "$(dirname "${BASH_SOURCE[0]}")/.." && pwd)
 rows=${1:-1000000}
-work=$(mktemp -d)
+work=$(mktemp -d /dev/shm/hsql-bench.XXXXXX)
 trap 'rm -rf "$work"' EXIT
 
 # rows_of COUNT TABLES: that many INSERTs, in turn over the tables, with different keys in random order.
@@ -29,12 +29,13 @@ tables_of() {
 run() {
     local user system
     peak=0
+    rm -f "$work"/bench.*
     if [ -x /usr/bin/time ]; then
-        /usr/bin/time -f '%U %S %M' -o "$work/spent" "$program" bench <"$1" >"$work/output"
+        /usr/bin/time -f '%U %S %M' -o "$work/spent" "$program" "$work/bench" <"$1" >"$work/output"
         read -r user system peak <"$work/spent"
     else
         local TIMEFORMAT='%U %S'
-        read -r user system < <({ time "$program" bench <"$1" >"$work/output"; } 2>&1)
+        read -r user system < <({ time "$program" "$work/bench" <"$1" >"$work/output"; } 2>&1)
     fi
     seconds=$(reckon "$user + $system" 2)
     if [ "$(tail -n 1 "$work/output")" != "closed at $2" ]; then
@@ -55,7 +56,7 @@ median_run() {
 
 reckon() { awk "BEGIN { printf \"%.${2:-0}f\", $1 }"; }
 
-"$top/bin/hsql" bench </dev/null >/dev/null
+"$top/bin/hsql" "$work/bench" </dev/null >/dev/null
 program="$top/crates/hsql/out/hsql"
 
 { tables_of 1; rows_of "$rows" 1; } >"$work/once"

@@ -1,6 +1,6 @@
 // Inputs with their items, written by hand.
 use crate::{EntryReader, InputFault, Item, MOST_BYTES};
-use hs_memhost::{CallList, MemHost};
+use hs_memhost::{CallList, Images, MemHost};
 use hs_values::Bytes;
 use std::alloc::{AllocError, Global};
 use std::test::Fail;
@@ -165,7 +165,8 @@ fn host(
     failing: CallList,
     piece: usize,
 ) -> Result<MemHost, AllocError> {
-    let mut source = MemHost::new(alloc, Bytes::from_vec(input), failing);
+    let files = Images::new(alloc);
+    let mut source = MemHost::new(alloc, Bytes::from_vec(input), files, false, failing);
     source.give_in_pieces(vec![in alloc; piece; 1]?);
     Ok(source)
 }

@@ -1,7 +1,9 @@
 -- What the calls of a host do.
 use Rattle.std.specs.Prelude.{◌≡◌, ℕ, ◌+◌, ◌-◌, ◌^◌, ◌<◌, ◌≤◌, min, List, [], ◌++◌, length, take, Result, MatchResult, IsErrOf}
-use Rattle.hs_host.specs.declared.HostFault.{HostFault}
-use Rattle.hs_host.specs.declared.HostFault.TheVariants.{Fault, NoMemory}
+use Rattle.hs_host.specs.declared.host_fault.HostFault.{HostFault}
+use Rattle.hs_host.specs.declared.host_fault.HostFault.TheVariants.{Fault, NoMemory}
+use Rattle.hs_host.specs.declared.mount_fault.MountFault.{MountFault}
+use Rattle.hs_host.specs.declared.mount_fault.MountFault.TheVariants as mount
 
 -- A count of faults has risen. One that is kept in 64 bits and stands at their end counts as risen.
 abbrev pub Rose : ℕ → ℕ → Type 0
@@ -12,6 +14,13 @@ pub record HasCause {T : Type 0} (before now : ℕ) (result : Result T HostFault
   pub kept : before ≤ now
   pub fault : IsErrOf result Fault → Rose before now
   pub memory : IsErrOf result NoMemory → now ≡ before
+
+-- The same of mounting. That the files are those of another program raises no count either.
+pub record HasMountCause {T : Type 0} (before now : ℕ) (result : Result T MountFault) : Type 0 where
+  pub kept : before ≤ now
+  pub fault : IsErrOf result mount.Fault → Rose before now
+  pub foreign : IsErrOf result mount.Foreign → now ≡ before
+  pub memory : IsErrOf result mount.NoMemory → now ≡ before
 
 -- At `Ok n` the first n bytes of the input that was left are now at the front of the buffer, and n is 0
 -- only at the end of the input or where the buffer has no room. After an `Err` nothing was taken.

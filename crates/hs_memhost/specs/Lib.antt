@@ -1,2 +1,6 @@
+pub mod Files
+pub mod Images
 pub mod Input
 pub mod Memory
+pub mod Mounting
+pub mod Never

@@ -1,5 +1,8 @@
--- What a host in memory is made of, beyond what every host tells.
+-- What a host in memory is made of, and what of it reading keeps.
 use Rattle.std.specs.Prelude.{ℕ, List}
+use Rattle.hs_host.specs.Files.{Five, Standing}
+use Rattle.hs_memhost.specs.Files.{contents_of}
+use Rattle.hs_memhost.specs.Mounting.{standing_of}
 use Rattle.hs_memhost.specs.declared.memory.MemHost.{MemHost}
 
 -- the numbers of the calls that fail
@@ -9,3 +12,23 @@ failing_of h = h.failing
 -- how many calls were made, and so the number of the next one
 abbrev pub calls_of : MemHost → ℕ
 calls_of h = h.calls
+
+-- what each file has
+abbrev pub files_in : MemHost → Five (List ℕ)
+files_in h = contents_of h.files
+
+-- its name, and how it stands to the files
+abbrev pub standing_in : MemHost → Standing
+standing_in h = standing_of h.mounting h.is_foreign
+
+-- all but the input, its faults and the number of calls
+pub record Kept : Type 0 where
+  pub output : List ℕ
+  pub output_faults : ℕ
+  pub files : Five (List ℕ)
+  pub standing : Standing
+  pub disk_faults : ℕ
+  pub failing : List ℕ
+
+abbrev pub kept_of : MemHost → Kept
+kept_of h = record { output = h.output; output_faults = h.output_faults; files = files_in h; standing = standing_in h; disk_faults = h.disk_faults; failing = h.failing }

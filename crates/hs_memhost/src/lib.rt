@@ -3,12 +3,16 @@
 #![tactic(auto)]
 
 mod call_list;
+mod files;
+mod images;
 mod input;
 mod memory;
+mod mounting;
 mod never;
 #[cfg(test)]
 mod tests;
 
 pub use call_list::CallList;
+pub use images::Images;
 pub use memory::MemHost;
 pub use never::NeverFails;

@@ -1,13 +1,17 @@
 // A host in memory whose calls fail where a list says so.
-ghost use Rattle.std.specs.Prelude.{◌≡◌, ◌↔◌, ℕ, List, ◌<◌, ◌+◌, ◌-◌, ◌^◌, min, [], length, IsTrue, IfOk, IsErrOf, Contains, refl};
-ghost use Rattle.std.proofs.Common.{◌∙◌};
+ghost use Rattle.std.specs.Prelude.{◌≡◌, ◌↔◌, ◌⊎◌, ℕ, List, ◌<◌, ◌≤◌, ◌+◌, ◌-◌, ◌^◌, min, [], length, take, IsTrue, IfOk, OnOk, OnErr, IsErrOf, Contains, None, false, true, refl};
+ghost use Rattle.std.proofs.Common.{◌∙◌, ap};
 ghost use Rattle.hs_memhost.specs.Input.{left_of};
 ghost use Rattle.std.specs.Io.{ReadsAtMost, WritesAtMost};
-ghost use Rattle.hs_host.specs.Host.{HasCause, Rose, TakesInput, AddsOutput};
+ghost use Rattle.hs_host.specs.Files.{of, with_, overwrite, piece, IsForeign, mounted};
+ghost use Rattle.hs_host.specs.Host.{HasCause, HasMountCause, Rose, TakesInput, AddsOutput};
 
 use crate::call_list::CallList;
+use crate::files::Files;
+use crate::images::Images;
 use crate::input::Input;
-use hs_host::{Host, HostFault, Source};
+use crate::mounting::Mounting;
+use hs_host::{FileKind, Host, HostFault, MountFault, Source};
 use hs_values::Bytes;
 use std::alloc::Global;
 
@@ -16,32 +20,51 @@ use std::alloc::Global;
 pub struct MemHost {
     input: Input,
     output: Bytes,
+    files: Files,
+    mounting: Mounting,
+    is_foreign: bool,
     failing: CallList,
     calls: u64,
     input_faults: u64,
     output_faults: u64,
+    disk_faults: u64,
 }
 
 impl MemHost {
+    ghost use Rattle.hs_memhost.specs.Images.{files_of};
     ghost use Rattle.hs_memhost.specs.Memory.{calls_of, failing_of};
 
-    /// A host with this input, no output and no call yet. The calls that are `failing` do nothing and
-    /// answer `Fault`; no other call answers `Fault`.
-    pub fn new(alloc: Global, input: Bytes, failing: CallList) -> MemHost
+    /// A host with this input, no output, no name and no call yet. Its files are those of another program
+    /// exactly where `foreign` says so. The calls that are `failing` do nothing but count, and answer
+    /// `Fault`; no other call answers `Fault`.
+    pub fn new(
+        alloc: Global,
+        input: Bytes,
+        files: Images,
+        foreign: bool,
+        failing: CallList,
+    ) -> MemHost
         ensures unread { ⟦<MemHost as Source>⟧.unread result ≡ input }
         ensures written { ⟦<MemHost as Host>⟧.written result ≡ [] }
+        ensures files { ⟦<MemHost as Host>⟧.files result ≡ files_of files }
+        ensures standing { ⟦<MemHost as Host>⟧.standing result ≡ record { name = None; is_open = false; is_foreign = foreign; is_honest = true } }
         ensures failing { failing_of result ≡ failing }
         ensures calls { calls_of result ≡ 0 }
         ensures input_faults { ⟦<MemHost as Source>⟧.input_faults result ≡ 0 }
         ensures output_faults { ⟦<MemHost as Host>⟧.output_faults result ≡ 0 }
+        ensures disk_faults { ⟦<MemHost as Host>⟧.disk_faults result ≡ 0 }
     {
         MemHost {
             input: Input::new(alloc, input),
             output: Bytes::new(alloc),
+            files: Files::from_images(files),
+            mounting: Mounting::new(alloc),
+            is_foreign: foreign,
             failing,
             calls: 0,
             input_faults: 0,
             output_faults: 0,
+            disk_faults: 0,
         }
     }
 
@@ -50,10 +73,13 @@ impl MemHost {
     pub fn give_in_pieces(&mut self, lengths: Vec<usize>)
         ensures unread { ⟦<MemHost as Source>⟧.unread self.new ≡ ⟦<MemHost as Source>⟧.unread self.old }
         ensures written { ⟦<MemHost as Host>⟧.written self.new ≡ ⟦<MemHost as Host>⟧.written self.old }
+        ensures files { ⟦<MemHost as Host>⟧.files self.new ≡ ⟦<MemHost as Host>⟧.files self.old }
+        ensures standing { ⟦<MemHost as Host>⟧.standing self.new ≡ ⟦<MemHost as Host>⟧.standing self.old }
         ensures failing { failing_of self.new ≡ failing_of self.old }
         ensures calls { calls_of self.new ≡ calls_of self.old }
         ensures input_faults { ⟦<MemHost as Source>⟧.input_faults self.new ≡ ⟦<MemHost as Source>⟧.input_faults self.old }
         ensures output_faults { ⟦<MemHost as Host>⟧.output_faults self.new ≡ ⟦<MemHost as Host>⟧.output_faults self.old }
+        ensures disk_faults { ⟦<MemHost as Host>⟧.disk_faults self.new ≡ ⟦<MemHost as Host>⟧.disk_faults self.old }
     {
         self.input.set_pieces(lengths);
     }
@@ -63,6 +89,13 @@ impl MemHost {
         ensures { result.now ≡ ⟦<MemHost as Host>⟧.written self.now }
     {
         self.output.as_slice()
+    }
+
+    /// The bytes of a file.
+    pub fn image(&self, file: FileKind) -> &[u8]
+        ensures { result.now ≡ of (⟦<MemHost as Host>⟧.files self.now) file }
+    {
+        self.files.get(file)
     }
 
     /// How many calls were made.
@@ -81,10 +114,34 @@ impl MemHost {
         self.calls = self.calls.saturating_add(1);
         fails
     }
+
+    // Counts a fault of the disk.
+    fn count_disk_fault(&mut self)
+        ensures counted { self.new ≡ record self.old { disk_faults = min (self.old.disk_faults + 1) (2 ^ 64 - 1) } }
+        ensures kept { self.old.disk_faults ≤ self.new.disk_faults }
+        ensures rose { Rose self.old.disk_faults self.new.disk_faults }
+    {
+        self.disk_faults = self.disk_faults.saturating_add(1);
+    }
+
+    // Counts a call on the files, and answers `Fault` if it is to fail.
+    fn reach_disk(&mut self) -> Result<(), HostFault>
+        ensures listed { IsErrOf result HostFault.Fault ↔ Contains (failing_of self.old) (calls_of self.old) }
+        ensures memory { IsErrOf result HostFault.NoMemory → ⊥ }
+        ensures ok { OnOk result (self.new ≡ record self.old { calls = min (self.old.calls + 1) (2 ^ 64 - 1) }) }
+        ensures cause { HasCause self.old.disk_faults self.new.disk_faults result }
+        ensures err { OnErr result (self.new ≡ record self.old { calls = min (self.old.calls + 1) (2 ^ 64 - 1); disk_faults = min (self.old.disk_faults + 1) (2 ^ 64 - 1) }) }
+    {
+        if self.fails_now() {
+            self.count_disk_fault();
+            return Err(HostFault::Fault);
+        }
+        Ok(())
+    }
 }
 
 impl Source for MemHost {
-    ghost use Rattle.hs_memhost.specs.Memory.{calls_of, failing_of};
+    ghost use Rattle.hs_memhost.specs.Memory.{calls_of, failing_of, kept_of};
 
     ghost tells = { Unit {0} };
 
@@ -92,17 +149,18 @@ impl Source for MemHost {
 
     ghost input_faults = { λ h. h.input_faults };
 
-    ghost only_input = { λ a b. (b.output ≡ a.output) × (b.output_faults ≡ a.output_faults) };
+    ghost only_input = { λ a b. kept_of b ≡ kept_of a };
 
-    ghost nothing_read = { λ h. (refl, refl) };
+    ghost nothing_read = { λ h. refl };
 
-    ghost read_on = { λ a b c ab bc. (bc.0 ∙ ab.0, bc.1 ∙ ab.1) };
+    ghost read_on = { λ a b c ab bc. bc ∙ ab };
 
     fn read_input(&mut self, buf: &mut [u8]) -> Result<usize, HostFault>
         ensures bound { ReadsAtMost result buf.new }
         ensures bytes { TakesInput (left_of self.old.input) (left_of self.new.input) result buf.new }
         ensures cause { HasCause self.old.input_faults self.new.input_faults result }
-        ensures only { (self.new.output ≡ self.old.output) × (self.new.output_faults ≡ self.old.output_faults) }
+        ensures no_fault { OnOk result (self.new.input_faults ≡ self.old.input_faults) }
+        ensures only { kept_of self.new ≡ kept_of self.old }
         ensures listed { IsErrOf result HostFault.Fault ↔ Contains (failing_of self.old) (calls_of self.old) }
         ensures calls { calls_of self.new ≡ min (calls_of self.old + 1) (2 ^ 64 - 1) }
     {
@@ -115,23 +173,36 @@ impl Source for MemHost {
 }
 
 impl Host for MemHost {
-    ghost use Rattle.hs_memhost.specs.Memory.{calls_of, failing_of};
+    ghost use Rattle.hs_memhost.specs.Memory.{calls_of, failing_of, files_in, standing_in};
 
     ghost written = { λ h. h.output };
 
     ghost output_faults = { λ h. h.output_faults };
 
-    ghost reading_keeps_output = { λ a b read. read };
+    ghost files = { files_in };
+
+    ghost standing = { standing_in };
+
+    ghost disk_faults = { λ h. h.disk_faults };
+
+    ghost reading_keeps_output = { λ a b read. (ap (λ k. k.output) read, ap (λ k. k.output_faults) read) };
+
+    ghost reading_keeps_files = { λ a b read. (ap (λ k. k.files) read, ap (λ k. k.standing) read, ap (λ k. k.disk_faults) read) };
 
     fn write_output(&mut self, bytes: &[u8]) -> Result<usize, HostFault>
         ensures bound { WritesAtMost result bytes.now }
         ensures output { AddsOutput self.old.output self.new.output bytes.now result }
         ensures none { IfOk result (λ n. n ≡ 0 → 0 < length bytes.now → Rose self.old.output_faults self.new.output_faults) }
         ensures cause { HasCause self.old.output_faults self.new.output_faults result }
+        ensures no_fault { OnOk result (self.new.output_faults ≡ self.old.output_faults) }
         ensures input { left_of self.new.input ≡ left_of self.old.input }
         ensures input_faults { self.new.input_faults ≡ self.old.input_faults }
+        ensures files { files_in self.new ≡ files_in self.old }
+        ensures standing { standing_in self.new ≡ standing_in self.old }
+        ensures disk_faults { self.new.disk_faults ≡ self.old.disk_faults }
         ensures listed { IsErrOf result HostFault.Fault ↔ Contains (failing_of self.old) (calls_of self.old) }
         ensures calls { calls_of self.new ≡ min (calls_of self.old + 1) (2 ^ 64 - 1) }
+        ensures failing { failing_of self.new ≡ failing_of self.old }
     {
         if self.fails_now() {
             self.output_faults = self.output_faults.saturating_add(1);
@@ -141,5 +212,132 @@ impl Host for MemHost {
             Ok(()) => Ok(bytes.len()),
             Err(_) => Err(HostFault::NoMemory),
         }
+    }
+
+    fn mount(&mut self, name: &str) -> Result<(), MountFault>
+        ensures standing { standing_in self.new ≡ mounted name.now result (standing_in self.old) }
+        ensures foreign { IsErrOf result MountFault.Foreign → IsForeign (standing_in self.old) }
+        ensures own { OnOk result (IsForeign (standing_in self.old) → ⊥) }
+        ensures files { files_in self.new ≡ files_in self.old }
+        ensures cause { HasMountCause self.old.disk_faults self.new.disk_faults result }
+        ensures no_fault { OnOk result (self.new.disk_faults ≡ self.old.disk_faults) }
+        ensures input { left_of self.new.input ≡ left_of self.old.input }
+        ensures input_faults { self.new.input_faults ≡ self.old.input_faults }
+        ensures output { self.new.output ≡ self.old.output }
+        ensures output_faults { self.new.output_faults ≡ self.old.output_faults }
+
+        // Want of memory for the name comes before all others.
+        ensures fault { IsErrOf result MountFault.Fault → Contains (failing_of self.old) (calls_of self.old) }
+        ensures listed { Contains (failing_of self.old) (calls_of self.old) → IsErrOf result MountFault.Fault ⊎ IsErrOf result MountFault.NoMemory }
+        ensures calls { calls_of self.new ≡ min (calls_of self.old + 1) (2 ^ 64 - 1) }
+        ensures failing { failing_of self.new ≡ failing_of self.old }
+    {
+        let fails = self.fails_now();
+        if self.mounting.set_name(name).is_err() {
+            return Err(MountFault::NoMemory);
+        }
+        if fails {
+            self.count_disk_fault();
+            return Err(MountFault::Fault);
+        }
+        if self.is_foreign {
+            return Err(MountFault::Foreign);
+        }
+        self.mounting.set_open();
+        Ok(())
+    }
+
+    fn len(&mut self, file: FileKind) -> Result<u64, HostFault>
+        ensures length { IfOk result (λ n. n ≡ length (of (files_in self.new) file)) }
+        ensures files { files_in self.new ≡ files_in self.old }
+        ensures cause { HasCause self.old.disk_faults self.new.disk_faults result }
+        ensures no_fault { OnOk result (self.new.disk_faults ≡ self.old.disk_faults) }
+        ensures standing { standing_in self.new ≡ standing_in self.old }
+        ensures input { left_of self.new.input ≡ left_of self.old.input }
+        ensures input_faults { self.new.input_faults ≡ self.old.input_faults }
+        ensures output { self.new.output ≡ self.old.output }
+        ensures output_faults { self.new.output_faults ≡ self.old.output_faults }
+        ensures listed { IsErrOf result HostFault.Fault ↔ Contains (failing_of self.old) (calls_of self.old) }
+        ensures calls { calls_of self.new ≡ min (calls_of self.old + 1) (2 ^ 64 - 1) }
+        ensures failing { failing_of self.new ≡ failing_of self.old }
+    {
+        self.reach_disk()?;
+        Ok(self.files.get(file).len() as u64)
+    }
+
+    fn read(&mut self, file: FileKind, at: u64, buf: &mut [u8]) -> Result<(), HostFault>
+        requires { at + length buf.old ≤ length (of (files_in self.old) file) }
+        ensures bytes { OnOk result (buf.new ≡ piece at (length buf.new) (of (files_in self.new) file)) }
+        ensures buffer { OnErr result (buf.new ≡ buf.old) }
+        ensures files { files_in self.new ≡ files_in self.old }
+        ensures cause { HasCause self.old.disk_faults self.new.disk_faults result }
+        ensures no_fault { OnOk result (self.new.disk_faults ≡ self.old.disk_faults) }
+        ensures standing { standing_in self.new ≡ standing_in self.old }
+        ensures input { left_of self.new.input ≡ left_of self.old.input }
+        ensures input_faults { self.new.input_faults ≡ self.old.input_faults }
+        ensures output { self.new.output ≡ self.old.output }
+        ensures output_faults { self.new.output_faults ≡ self.old.output_faults }
+        ensures listed { IsErrOf result HostFault.Fault ↔ Contains (failing_of self.old) (calls_of self.old) }
+        ensures calls { calls_of self.new ≡ min (calls_of self.old + 1) (2 ^ 64 - 1) }
+        ensures failing { failing_of self.new ≡ failing_of self.old }
+    {
+        self.reach_disk()?;
+        self.files.read(file, at, buf);
+        Ok(())
+    }
+
+    fn write(&mut self, file: FileKind, at: u64, bytes: &[u8]) -> Result<(), HostFault>
+        requires { at ≤ length (of (files_in self.old) file) }
+        ensures room { OnOk result (at + length bytes.now ≤ 2 ^ 62) }
+        ensures ok { OnOk result (files_in self.new ≡ with_ (files_in self.old) file (overwrite (of (files_in self.old) file) at bytes.now)) }
+        ensures err { OnErr result (files_in self.new ≡ files_in self.old) }
+        ensures cause { HasCause self.old.disk_faults self.new.disk_faults result }
+        ensures no_fault { OnOk result (self.new.disk_faults ≡ self.old.disk_faults) }
+        ensures standing { standing_in self.new ≡ standing_in self.old }
+        ensures input { left_of self.new.input ≡ left_of self.old.input }
+        ensures input_faults { self.new.input_faults ≡ self.old.input_faults }
+        ensures output { self.new.output ≡ self.old.output }
+        ensures output_faults { self.new.output_faults ≡ self.old.output_faults }
+        ensures listed { IsErrOf result HostFault.Fault ↔ Contains (failing_of self.old) (calls_of self.old) }
+        ensures calls { calls_of self.new ≡ min (calls_of self.old + 1) (2 ^ 64 - 1) }
+        ensures failing { failing_of self.new ≡ failing_of self.old }
+    {
+        self.reach_disk()?;
+        self.files.write(file, at, bytes)
+    }
+
+    fn cut(&mut self, file: FileKind, len: u64) -> Result<(), HostFault>
+        ensures ok { OnOk result (files_in self.new ≡ with_ (files_in self.old) file (take len (of (files_in self.old) file))) }
+        ensures err { OnErr result (files_in self.new ≡ files_in self.old) }
+        ensures cause { HasCause self.old.disk_faults self.new.disk_faults result }
+        ensures no_fault { OnOk result (self.new.disk_faults ≡ self.old.disk_faults) }
+        ensures standing { standing_in self.new ≡ standing_in self.old }
+        ensures input { left_of self.new.input ≡ left_of self.old.input }
+        ensures input_faults { self.new.input_faults ≡ self.old.input_faults }
+        ensures output { self.new.output ≡ self.old.output }
+        ensures output_faults { self.new.output_faults ≡ self.old.output_faults }
+        ensures listed { IsErrOf result HostFault.Fault ↔ Contains (failing_of self.old) (calls_of self.old) }
+        ensures calls { calls_of self.new ≡ min (calls_of self.old + 1) (2 ^ 64 - 1) }
+        ensures failing { failing_of self.new ≡ failing_of self.old }
+    {
+        self.reach_disk()?;
+        self.files.cut(file, len);
+        Ok(())
+    }
+
+    fn sync(&mut self, _file: FileKind) -> Result<(), HostFault>
+        ensures files { files_in self.new ≡ files_in self.old }
+        ensures cause { HasCause self.old.disk_faults self.new.disk_faults result }
+        ensures no_fault { OnOk result (self.new.disk_faults ≡ self.old.disk_faults) }
+        ensures standing { standing_in self.new ≡ standing_in self.old }
+        ensures input { left_of self.new.input ≡ left_of self.old.input }
+        ensures input_faults { self.new.input_faults ≡ self.old.input_faults }
+        ensures output { self.new.output ≡ self.old.output }
+        ensures output_faults { self.new.output_faults ≡ self.old.output_faults }
+        ensures listed { IsErrOf result HostFault.Fault ↔ Contains (failing_of self.old) (calls_of self.old) }
+        ensures calls { calls_of self.new ≡ min (calls_of self.old + 1) (2 ^ 64 - 1) }
+        ensures failing { failing_of self.new ≡ failing_of self.old }
+    {
+        self.reach_disk()
     }
 }

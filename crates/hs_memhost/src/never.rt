@@ -1,29 +1,42 @@
 // A host in memory whose devices never fail.
-ghost use Rattle.std.specs.Prelude.{◌≡◌, [], refl};
-ghost use Rattle.std.proofs.Common.{◌∙◌};
+ghost use Rattle.std.specs.Prelude.{◌≡◌, [], None, false, true, refl};
+ghost use Rattle.std.proofs.Common.{◌∙◌, ap};
 ghost use Rattle.hs_memhost.specs.Input.{left_of};
+ghost use Rattle.hs_host.specs.Files.{of};
 
+use crate::files::Files;
+use crate::images::Images;
 use crate::input::Input;
-use hs_host::{Host, HostFault, Source};
+use crate::mounting::Mounting;
+use hs_host::{FileKind, Host, HostFault, MountFault, Source};
 use hs_values::Bytes;
 use std::alloc::Global;
 
-/// A host in memory that fails for want of memory alone: both its counts of faults are the constant 0.
+/// A host in memory that fails for want of memory alone: its three counts of faults are the constant 0,
+/// and its files are never those of another program.
 #[derive(Drop)]
 pub struct NeverFails {
     input: Input,
     output: Bytes,
+    files: Files,
+    mounting: Mounting,
 }
 
 impl NeverFails {
-    /// A host with this input and no output yet.
-    pub fn new(alloc: Global, input: Bytes) -> NeverFails
+    ghost use Rattle.hs_memhost.specs.Images.{files_of};
+
+    /// A host with this input, no output and no name yet.
+    pub fn new(alloc: Global, input: Bytes, files: Images) -> NeverFails
         ensures unread { ⟦<NeverFails as Source>⟧.unread result ≡ input }
         ensures written { ⟦<NeverFails as Host>⟧.written result ≡ [] }
+        ensures files { ⟦<NeverFails as Host>⟧.files result ≡ files_of files }
+        ensures standing { ⟦<NeverFails as Host>⟧.standing result ≡ record { name = None; is_open = false; is_foreign = false; is_honest = true } }
     {
         NeverFails {
             input: Input::new(alloc, input),
             output: Bytes::new(alloc),
+            files: Files::from_images(files),
+            mounting: Mounting::new(alloc),
         }
     }
 
@@ -33,16 +46,25 @@ impl NeverFails {
     {
         self.output.as_slice()
     }
+
+    /// The bytes of a file.
+    pub fn image(&self, file: FileKind) -> &[u8]
+        ensures { result.now ≡ of (⟦<NeverFails as Host>⟧.files self.now) file }
+    {
+        self.files.get(file)
+    }
 }
 
 impl Source for NeverFails {
+    ghost use Rattle.hs_memhost.specs.Never.{kept_of};
+
     ghost tells = { Unit {0} };
 
     ghost unread = { λ h. left_of h.input };
 
     ghost input_faults = { λ h. 0 };
 
-    ghost only_input = { λ a b. b.output ≡ a.output };
+    ghost only_input = { λ a b. kept_of b ≡ kept_of a };
 
     ghost nothing_read = { λ h. refl };
 
@@ -54,16 +76,57 @@ impl Source for NeverFails {
 }
 
 impl Host for NeverFails {
+    ghost use Rattle.hs_memhost.specs.Files.{contents_of};
+    ghost use Rattle.hs_memhost.specs.Mounting.{standing_of};
+
     ghost written = { λ h. h.output };
 
     ghost output_faults = { λ h. 0 };
 
-    ghost reading_keeps_output = { λ a b read. (read, refl) };
+    ghost files = { λ h. contents_of h.files };
+
+    ghost standing = { λ h. standing_of h.mounting false };
+
+    ghost disk_faults = { λ h. 0 };
+
+    ghost reading_keeps_output = { λ a b read. (ap (λ k. k.output) read, refl) };
+
+    ghost reading_keeps_files = { λ a b read. (ap (λ k. k.files) read, ap (λ k. k.standing) read, refl) };
 
     fn write_output(&mut self, bytes: &[u8]) -> Result<usize, HostFault> {
         match self.output.extend(bytes) {
             Ok(()) => Ok(bytes.len()),
             Err(_) => Err(HostFault::NoMemory),
         }
+    }
+
+    fn mount(&mut self, name: &str) -> Result<(), MountFault> {
+        if self.mounting.set_name(name).is_err() {
+            return Err(MountFault::NoMemory);
+        }
+        self.mounting.set_open();
+        Ok(())
+    }
+
+    fn len(&mut self, file: FileKind) -> Result<u64, HostFault> {
+        Ok(self.files.get(file).len() as u64)
+    }
+
+    fn read(&mut self, file: FileKind, at: u64, buf: &mut [u8]) -> Result<(), HostFault> {
+        self.files.read(file, at, buf);
+        Ok(())
+    }
+
+    fn write(&mut self, file: FileKind, at: u64, bytes: &[u8]) -> Result<(), HostFault> {
+        self.files.write(file, at, bytes)
+    }
+
+    fn cut(&mut self, file: FileKind, len: u64) -> Result<(), HostFault> {
+        self.files.cut(file, len);
+        Ok(())
+    }
+
+    fn sync(&mut self, _file: FileKind) -> Result<(), HostFault> {
+        Ok(())
     }
 }

@@ -33,3 +33,8 @@ front_behind old new piece more front = record {
 -- the last line ends what is to be written
 pub ended : (w p1 p2 r last whole : List ℕ) → w ++ (p1 ++ r) ≡ whole → r ≡ last → p2 ≡ p1 ++ last → w ++ p2 ≡ whole
 ended w p1 p2 r last whole so_far over pushed = ap (λ (l : List ℕ). w ++ l) (pushed ∙ sym (ap (λ (l : List ℕ). p1 ++ l) over)) ∙ so_far
+
+-- the texts of a turn are logged, and what is left goes on behind them
+pub logged_on : (t0 t1 t2 : List (List ℕ)) (texts r0 r2 : List (List ℕ)) → t1 ≡ t0 → t2 ≡ t1 ++ texts → r0 ≡ texts ++ r2 → t2 ++ r2 ≡ t0 ++ r0
+logged_on t0 t1 t2 texts r0 r2 same logged goes_on =
+    ap (λ (l : List (List ℕ)). l ++ r2) (logged ∙ ap (λ (l : List (List ℕ)). l ++ texts) same) ∙ append_assoc t0 texts r2 ∙ sym (ap (λ (l : List (List ℕ)). t0 ++ l) goes_on)

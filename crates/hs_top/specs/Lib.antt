@@ -1,10 +1,12 @@
 pub mod Command
+pub mod CommitText
 pub mod Database
 pub mod Entries
-pub mod Items
 pub mod Lines
 pub mod Machine
-pub mod Reader
+pub mod Opening
 pub mod Running
+pub mod Sessions
+pub mod Spelling
 pub mod Statement
 pub mod Status

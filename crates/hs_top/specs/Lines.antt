@@ -4,7 +4,7 @@ use Rattle.std.specs.Fmt.{decimal, signed_decimal}
 use Rattle.hs_values.specs.declared.value.Value.{Value}
 use Rattle.hs_values.specs.declared.value.Value.TheVariants.{Int}
 use Rattle.hs_top.specs.declared.refusal.Refusal.{Refusal}
-use Rattle.hs_top.specs.declared.refusal.Refusal.TheVariants.{NotBuilt, Exists, NoSuch}
+use Rattle.hs_top.specs.declared.refusal.Refusal.TheVariants.{TooLong, Entry, Sessions, NotBuilt, Exists, NoSuch}
 use Rattle.hs_top.specs.declared.reply.Reply.{Reply}
 use Rattle.hs_top.specs.declared.reply.Reply.TheVariants.{Done, Refused}
 use Rattle.hs_values.specs.Sorted.{sorted_rows}
@@ -20,11 +20,15 @@ abbrev pub value_text : Value → List ℕ
 value_text (Int n) = signed_decimal n
 value_text _ = []
 
+-- the elements of a list, each written by `text` and with `between` between them
+abbrev pub joined : {A : Type 0} → (A → List ℕ) → List ℕ → List A → List ℕ
+joined text between [] = []
+joined text between (x ∷ []) = text x
+joined text between (x ∷ y ∷ xs) = text x ++ between ++ joined text between (y ∷ xs)
+
 -- the values of a row, with a comma between them
 abbrev pub row_text : List Value → List ℕ
-row_text [] = []
-row_text (v ∷ []) = value_text v
-row_text (v ∷ w ∷ vs) = value_text v ++ codes "," ++ row_text (w ∷ vs)
+row_text row = joined value_text (codes ",") row
 
 -- a line for each row
 abbrev pub rows_lines : ℕ → List ℕ → List (List Value) → List ℕ
@@ -34,38 +38,39 @@ rows_lines number session (row ∷ rows) = line number session (codes "row " ++ 
 abbrev pub count_text : ℕ → List ℕ
 count_text n = codes " " ++ decimal n ++ (if n == 1 then codes " row" else codes " rows")
 
-abbrev pub commit_text : ℕ → List ℕ
-commit_text n = codes " committed " ++ decimal n
+abbrev pub committed_text : ℕ → List ℕ
+committed_text n = codes " committed " ++ decimal n
 
 abbrev pub text_or_nothing : (ℕ → List ℕ) → Option ℕ → List ℕ
 text_or_nothing text None = []
 text_or_nothing text (Some n) = text n
 
 abbrev pub refusal_text : Refusal → List ℕ
+refusal_text TooLong = codes "too long"
+refusal_text Entry = codes "entry"
+refusal_text Sessions = codes "sessions"
 refusal_text NotBuilt = codes "not built"
 refusal_text (Exists name) = codes "exists " ++ name
 refusal_text (NoSuch name) = codes "no such " ++ name
 
--- an item that is no statement is of no session
-abbrev pub session_of : Refusal → List ℕ
-session_of NotBuilt = codes "-"
-session_of (Exists name) = codes "a"
-session_of (NoSuch name) = codes "a"
+-- an entry that is bad or too long is of no session
+abbrev pub no_session : List ℕ
+no_session = codes "-"
 
 -- the line with `ok` or `refused`
-abbrev pub reply_line : ℕ → Reply → List ℕ
-reply_line number (Done count committed) =
-    line number (codes "a") (codes "ok" ++ text_or_nothing count_text count ++ text_or_nothing commit_text committed)
-reply_line number (Refused refusal) = line number (session_of refusal) (codes "refused " ++ refusal_text refusal)
+abbrev pub reply_line : ℕ → List ℕ → Reply → List ℕ
+reply_line number session (Done count committed) =
+    line number session (codes "ok" ++ text_or_nothing count_text count ++ text_or_nothing committed_text committed)
+reply_line number session (Refused refusal) = line number session (codes "refused " ++ refusal_text refusal)
 
 -- the lines for item N: the rows of its answer, and then its reply
-abbrev pub outcome_lines : ℕ → Outcome → List ℕ
-outcome_lines number outcome = rows_lines number (codes "a") outcome.rows ++ reply_line number outcome.reply
+abbrev pub outcome_lines : ℕ → List ℕ → Outcome → List ℕ
+outcome_lines number session outcome = rows_lines number session outcome.rows ++ reply_line number session outcome.reply
 
 -- the rows of a table in ascending order, and the reply
-abbrev pub answer_lines : ℕ → Table → List ℕ
-answer_lines number table =
-    rows_lines number (codes "a") (sorted_rows table.rows) ++ reply_line number (Done (Some (length table.rows)) None)
+abbrev pub answer_lines : ℕ → List ℕ → Table → List ℕ
+answer_lines number session table =
+    rows_lines number session (sorted_rows table.rows) ++ reply_line number session (Done (Some (length table.rows)) None)
 
 abbrev pub opened_line : ℕ → List ℕ
 opened_line commits = codes "opened at " ++ decimal commits ++ codes "\n"

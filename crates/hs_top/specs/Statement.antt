@@ -1,5 +1,6 @@
 -- The statements of the program, and the one spelling of each.
 use Rattle.std.specs.Prelude.{ℕ, zero, suc, ◌+◌, ◌^◌, Bool, true, false, ◌==◌, ◌&&◌, not, nat_lt, nat_le, nat_eq, ℤ, pos, neg_ℤ, List, [], ◌∷◌, ◌++◌, length, take, drop, Option, None, Some, if◌then◌else◌, codes}
+use Rattle.std.specs.Cmp.Lexicographic.{pointwise}
 use Rattle.std.specs.List.{starts_with, prefix_len}
 use Rattle.std.specs.Str.Parse.{digits_value}
 use Rattle.hs_values.specs.declared.value.Value.{Value}
@@ -7,8 +8,6 @@ use Rattle.hs_values.specs.declared.value.Value.TheVariants.{Int}
 use Rattle.hs_top.specs.declared.statement.Statement.{Statement}
 use Rattle.hs_top.specs.declared.statement.Statement.TheVariants.{Create, Insert, Select}
 use Rattle.hs_top.specs.declared.statement.TheConstants.{MOST_COLUMNS}
-use Rattle.hs_top.specs.declared.item.Item.{Item}
-use Rattle.hs_top.specs.declared.item.Item.TheVariants.{Text, TooLong}
 
 -- what stands behind a prefix
 abbrev pub after : List ℕ → List ℕ → Option (List ℕ)
@@ -56,6 +55,10 @@ has_minus (b ∷ bs) = b == 45
 abbrev pub without_minus : List ℕ → List ℕ
 without_minus bytes = if has_minus bytes then drop 1 bytes else bytes
 
+-- the number of a session, from 1 to 2 ^ 32 - 1
+abbrev pub session_of : List ℕ → Option ℕ
+session_of digits = if is_numeral digits && (nat_lt 0 (digits_value 10 digits) && nat_lt (digits_value 10 digits) (2 ^ 32)) then Some (digits_value 10 digits) else None
+
 -- the number at the front, and what stands behind it
 abbrev pub number_of : List ℕ → Option (ℤ × List ℕ)
 number_of bytes =
@@ -65,45 +68,38 @@ number_of bytes =
 abbrev pub value_of : List ℕ → Option (Value × List ℕ)
 value_of bytes = number_of bytes >>= λ p. Some (Int p.0, p.1)
 
--- `);` and nothing else
-abbrev pub is_end : List ℕ → Bool
-is_end bytes = starts_with nat_eq bytes (codes ");") && length bytes == 2
-
--- the elements of a list, up to its end, each read by `one` and with `between` between them: at most so
--- many more behind those so far
-unfoldable pub list_from : {A : Type 0} → (List ℕ → Option (A × List ℕ)) → List ℕ → List A → ℕ → List ℕ → Option (List A)
-list_from one between so_far zero bytes = None
-list_from one between so_far (suc k) bytes =
+-- the elements of a list, up to `ending` and nothing behind it, each read by `one` and with `between`
+-- between them: at most so many more behind those so far
+unfoldable pub list_from : {A : Type 0} → (List ℕ → Option (A × List ℕ)) → List ℕ → List ℕ → List A → ℕ → List ℕ → Option (List A)
+list_from one between ending so_far zero bytes = None
+list_from one between ending so_far (suc k) bytes =
     one bytes >>= λ p.
-    if is_end p.1 then Some (so_far ++ p.0 ∷ [])
-    else after between p.1 >>= λ more. list_from one between (so_far ++ p.0 ∷ []) k more
+    if pointwise nat_eq p.1 ending then Some (so_far ++ p.0 ∷ [])
+    else after between p.1 >>= λ more. list_from one between ending (so_far ++ p.0 ∷ []) k more
 
--- `CREATE TABLE T (N BIGINT, M BIGINT);` behind its first words
-abbrev pub create_of : List ℕ → Option Statement
-create_of bytes =
-    name_of bytes >>= λ table. after (codes " (") table.1 >>= λ rest.
-    list_from column_of (codes ", ") [] MOST_COLUMNS rest >>= λ columns. Some (Create table.0 columns)
+-- a table and its columns, as `T (N BIGINT, M BIGINT);`, which are the words behind `CREATE TABLE`: what
+-- stands behind the table's name, between two columns and at the end is said by the caller
+abbrev pub create_of : List ℕ → List ℕ → List ℕ → List ℕ → Option Statement
+create_of opening between ending bytes =
+    name_of bytes >>= λ table. after opening table.1 >>= λ rest.
+    list_from column_of between ending [] MOST_COLUMNS rest >>= λ columns. Some (Create table.0 columns)
 
--- `INSERT INTO T VALUES (1,-7);` behind its first words
-abbrev pub insert_of : List ℕ → Option Statement
-insert_of bytes =
-    name_of bytes >>= λ table. after (codes " VALUES (") table.1 >>= λ rest.
-    list_from value_of (codes ",") [] (length rest) rest >>= λ row. Some (Insert table.0 row)
+-- a table and the values of a row, as `T VALUES (1,-7);`
+abbrev pub insert_of : List ℕ → List ℕ → List ℕ → Option Statement
+insert_of opening ending bytes =
+    name_of bytes >>= λ table. after opening table.1 >>= λ rest.
+    list_from value_of (codes ",") ending [] (length rest) rest >>= λ row. Some (Insert table.0 row)
 
--- `SELECT * FROM T;` behind its first words
+-- a table, as `T;`
 abbrev pub select_of : List ℕ → Option Statement
-select_of bytes = name_of bytes >>= λ table. if starts_with nat_eq table.1 (codes ";") && length table.1 == 1 then Some (Select table.0) else None
+select_of bytes = name_of bytes >>= λ table. if pointwise nat_eq table.1 (codes ";") then Some (Select table.0) else None
 
--- the statement that an entry of session `a` spells
+-- the statement that the text of an entry spells, which stands behind the colon of its session
 abbrev pub statement_of : List ℕ → Option Statement
-statement_of bytes = elim (after (codes "a: CREATE TABLE ") bytes) [
-  | Some rest ↦ create_of rest
-  | None ↦ elim (after (codes "a: INSERT INTO ") bytes) [
-    | Some rest ↦ insert_of rest
-    | None ↦ after (codes "a: SELECT * FROM ") bytes >>= λ rest. select_of rest
+statement_of bytes = elim (after (codes " CREATE TABLE ") bytes) [
+  | Some rest ↦ create_of (codes " (") (codes ", ") (codes ");") rest
+  | None ↦ elim (after (codes " INSERT INTO ") bytes) [
+    | Some rest ↦ insert_of (codes " VALUES (") (codes ");") rest
+    | None ↦ after (codes " SELECT * FROM ") bytes >>= λ rest. select_of rest
   ]
 ]
-
-abbrev pub read_of : Item → Option Statement
-read_of (Text bytes) = statement_of bytes
-read_of TooLong = None

@@ -1,89 +1,298 @@
 // Answers one item.
-ghost use Rattle.std.specs.Prelude.{◌≡◌, ◌⊎◌, ℕ, ◌+◌, ◌^◌, ◌<◌, ◌≤◌, List, [], ◌++◌, OnOk, IsErrOf, map, codes};
+ghost use Rattle.std.specs.Prelude.{◌≡◌, ◌⊎◌, ℕ, ◌+◌, ◌<◌, ◌≤◌, List, [], ◌++◌, Some, true, false, OnOk, IfErr, IsErrOf, map, codes};
 ghost use Rattle.hs_host.specs.Host.{Rose};
+ghost use Rattle.hs_host.specs.Files.{IsOpen, IsHonest};
 ghost use Rattle.hs_top.specs.declared.statement.Statement.{Statement};
-ghost use Rattle.hs_top.specs.Statement.{read_of};
+ghost use Rattle.hs_top.specs.Statement.{statement_of};
 ghost use Rattle.hs_top.specs.Database.{performed, executed};
-ghost use Rattle.hs_top.specs.Lines.{rows_lines, answer_lines, outcome_lines};
-ghost use Rattle.hs_top.specs.Machine.{WritesFront};
+ghost use Rattle.hs_top.specs.CommitText.{IsChange};
+ghost use Rattle.hs_top.specs.Lines.{rows_lines, reply_line, answer_lines, outcome_lines};
+ghost use Rattle.hs_top.specs.Machine.{WritesFront, step_of, entered, logged, last_after, if_commit, commits_after};
+ghost use Rattle.hs_top.specs.Running.{state_of, texts_in, OnlyLog, HasRoom, IsLog, IsSound, IsWhole, is_damaged};
 
+use crate::commit_text::commit_text;
 use crate::database::{Database, sorted};
 use crate::hand_over::hand_over_much;
-use crate::item::Item;
 use crate::output::Output;
 use crate::refusal::Refusal;
 use crate::reply::Reply;
-use crate::statement::{Statement, read_item};
+use crate::statement::{Statement, read_statement};
+use crate::statement_log::StatementLog;
 use crate::status::Status;
 use crate::table::Table;
+use crate::work::Work;
+use hs_entries::Item;
 use hs_host::Host;
-use hs_values::{Name, Row};
+use hs_values::{Bytes, Chars, Name, Row};
 use std::alloc::Global;
 
-/// Does what item `number` asks for, and writes its lines.
+/// Does what an item asks for, and writes its lines.
 #[tactic(auto, using(crate::proofs::Fronts::front_after))]
 pub fn answer<H: Host>(
     alloc: Global,
-    number: u64,
-    item: &Item,
-    database: &mut Database,
+    item: Item,
+    work: &mut Work,
     output: &mut Output,
     host: &mut H,
 ) -> Result<(), Status>
-    requires { database.old.commits < 2 ^ 63 }
-    ensures database { OnOk result (database.new ≡ (performed database.old (read_of item.now)).database) }
-    ensures done { H.tells → OnOk result (H.written host.new ++ output.new ≡ H.written host.old ++ (output.old ++ outcome_lines number (performed database.old (read_of item.now)))) }
-    ensures front { H.tells → WritesFront (H.written host.old) (H.written host.new) (output.old ++ outcome_lines number (performed database.old (read_of item.now))) }
+    requires opened { IsOpen (H.standing host.old) }
+    requires whole { IsWhole work.old }
+    requires logged { H.tells → IsHonest (H.standing host.old) → IsLog (H.files host.old) work.old.log }
+    ensures state { OnOk result (state_of work.new ≡ (step_of item (state_of work.old)).next) }
+    ensures sane { OnOk result (IsWhole work.new) }
+    ensures logged { H.tells → IsHonest (H.standing host.old) → OnOk result (IsLog (H.files host.new) work.new.log) }
+    ensures texts { H.tells → IsHonest (H.standing host.old) → OnOk result (texts_in (H.files host.new) ≡ texts_in (H.files host.old) ++ (step_of item (state_of work.old)).texts) }
+    ensures others { H.tells → IsHonest (H.standing host.old) → OnlyLog (H.files host.old) (H.files host.new) }
+    ensures done { H.tells → OnOk result (H.written host.new ++ output.new ≡ H.written host.old ++ (output.old ++ (step_of item (state_of work.old)).lines)) }
+    ensures front { H.tells → WritesFront (H.written host.old) (H.written host.new) (output.old ++ (step_of item (state_of work.old)).lines) }
     ensures output_fault { IsErrOf result Status.OutputFault → Rose (H.output_faults host.old) (H.output_faults host.new) }
+    ensures disk_fault { IsErrOf result Status.DiskFault → Rose (H.disk_faults host.old) (H.disk_faults host.new) }
     ensures only { IsErrOf result Status.Done ⊎ (IsErrOf result Status.Usage ⊎ (IsErrOf result Status.InputFault ⊎ IsErrOf result Status.InputTooLong)) → ⊥ }
-    ensures later { H.output_faults host.old ≤ H.output_faults host.new }
+    ensures whole { IfErr result (λ status. is_damaged status ≡ false) }
+    ensures output_later { H.output_faults host.old ≤ H.output_faults host.new }
+    ensures disk_later { H.disk_faults host.old ≤ H.disk_faults host.new }
     ensures unread { H.unread host.new ≡ H.unread host.old }
     ensures input_faults { H.input_faults host.new ≡ H.input_faults host.old }
+    ensures standing { H.standing host.new ≡ H.standing host.old }
 {
-    perform(alloc, number, item, database, output, host)?;
+    perform(alloc, item, work, output, host)?;
     hand_over_much(output, host)
 }
 
-// Does what item `number` asks for, and gathers its lines.
+// Does what an item asks for, and gathers its lines.
 #[tactic(auto, using(crate::proofs::Fronts::nothing_yet))]
 fn perform<H: Host>(
     alloc: Global,
-    number: u64,
-    item: &Item,
-    database: &mut Database,
+    item: Item,
+    work: &mut Work,
     output: &mut Output,
     host: &mut H,
 ) -> Result<(), Status>
-    requires { database.old.commits < 2 ^ 63 }
-    ensures database { OnOk result (database.new ≡ (performed database.old (read_of item.now)).database) }
-    ensures done { H.tells → OnOk result (H.written host.new ++ output.new ≡ H.written host.old ++ (output.old ++ outcome_lines number (performed database.old (read_of item.now)))) }
-    ensures front { H.tells → WritesFront (H.written host.old) (H.written host.new) (output.old ++ outcome_lines number (performed database.old (read_of item.now))) }
+    requires opened { IsOpen (H.standing host.old) }
+    requires whole { IsWhole work.old }
+    requires logged { H.tells → IsHonest (H.standing host.old) → IsLog (H.files host.old) work.old.log }
+    ensures state { OnOk result (state_of work.new ≡ (step_of item (state_of work.old)).next) }
+    ensures sane { OnOk result (IsWhole work.new) }
+    ensures logged { H.tells → IsHonest (H.standing host.old) → OnOk result (IsLog (H.files host.new) work.new.log) }
+    ensures texts { H.tells → IsHonest (H.standing host.old) → OnOk result (texts_in (H.files host.new) ≡ texts_in (H.files host.old) ++ (step_of item (state_of work.old)).texts) }
+    ensures others { H.tells → IsHonest (H.standing host.old) → OnlyLog (H.files host.old) (H.files host.new) }
+    ensures done { H.tells → OnOk result (H.written host.new ++ output.new ≡ H.written host.old ++ (output.old ++ (step_of item (state_of work.old)).lines)) }
+    ensures front { H.tells → WritesFront (H.written host.old) (H.written host.new) (output.old ++ (step_of item (state_of work.old)).lines) }
     ensures output_fault { IsErrOf result Status.OutputFault → Rose (H.output_faults host.old) (H.output_faults host.new) }
+    ensures disk_fault { IsErrOf result Status.DiskFault → Rose (H.disk_faults host.old) (H.disk_faults host.new) }
     ensures only { IsErrOf result Status.Done ⊎ (IsErrOf result Status.Usage ⊎ (IsErrOf result Status.InputFault ⊎ IsErrOf result Status.InputTooLong)) → ⊥ }
-    ensures later { H.output_faults host.old ≤ H.output_faults host.new }
+    ensures whole { IfErr result (λ status. is_damaged status ≡ false) }
+    ensures output_later { H.output_faults host.old ≤ H.output_faults host.new }
+    ensures disk_later { H.disk_faults host.old ≤ H.disk_faults host.new }
     ensures unread { H.unread host.new ≡ H.unread host.old }
     ensures input_faults { H.input_faults host.new ≡ H.input_faults host.old }
+    ensures standing { H.standing host.new ≡ H.standing host.old }
 {
-    match read_item(alloc, item)? {
+    match item {
+        Item::Entry {
+            number,
+            session,
+            text,
+            at: _,
+        } => enter(alloc, number, &session, &text, work, output, host),
+        Item::Bad { number } => {
+            output.push_reply(number, "-", &Reply::Refused(Refusal::Entry))?;
+            Ok(())
+        }
+        Item::TooLong { number } => {
+            output.push_reply(number, "-", &Reply::Refused(Refusal::TooLong))?;
+            Ok(())
+        }
+        Item::End => Ok(()),
+    }
+}
+
+// Does what an entry asks for, and gathers its lines.
+#[tactic(auto, using(crate::proofs::Fronts::nothing_yet))]
+fn enter<H: Host>(
+    alloc: Global,
+    number: u64,
+    name: &Name,
+    text: &Chars,
+    work: &mut Work,
+    output: &mut Output,
+    host: &mut H,
+) -> Result<(), Status>
+    requires opened { IsOpen (H.standing host.old) }
+    requires whole { IsWhole work.old }
+    requires logged { H.tells → IsHonest (H.standing host.old) → IsLog (H.files host.old) work.old.log }
+    ensures state { OnOk result (state_of work.new ≡ (step_of (Item.Entry number name.now text.now 0) (state_of work.old)).next) }
+    ensures sane { OnOk result (IsWhole work.new) }
+    ensures logged { H.tells → IsHonest (H.standing host.old) → OnOk result (IsLog (H.files host.new) work.new.log) }
+    ensures texts { H.tells → IsHonest (H.standing host.old) → OnOk result (texts_in (H.files host.new) ≡ texts_in (H.files host.old) ++ (step_of (Item.Entry number name.now text.now 0) (state_of work.old)).texts) }
+    ensures others { H.tells → IsHonest (H.standing host.old) → OnlyLog (H.files host.old) (H.files host.new) }
+    ensures done { H.tells → OnOk result (H.written host.new ++ output.new ≡ H.written host.old ++ (output.old ++ (step_of (Item.Entry number name.now text.now 0) (state_of work.old)).lines)) }
+    ensures front { H.tells → WritesFront (H.written host.old) (H.written host.new) (output.old ++ (step_of (Item.Entry number name.now text.now 0) (state_of work.old)).lines) }
+    ensures output_fault { IsErrOf result Status.OutputFault → Rose (H.output_faults host.old) (H.output_faults host.new) }
+    ensures disk_fault { IsErrOf result Status.DiskFault → Rose (H.disk_faults host.old) (H.disk_faults host.new) }
+    ensures only { IsErrOf result Status.Done ⊎ (IsErrOf result Status.Usage ⊎ (IsErrOf result Status.InputFault ⊎ IsErrOf result Status.InputTooLong)) → ⊥ }
+    ensures whole { IfErr result (λ status. is_damaged status ≡ false) }
+    ensures output_later { H.output_faults host.old ≤ H.output_faults host.new }
+    ensures disk_later { H.disk_faults host.old ≤ H.disk_faults host.new }
+    ensures unread { H.unread host.new ≡ H.unread host.old }
+    ensures input_faults { H.input_faults host.new ≡ H.input_faults host.old }
+    ensures standing { H.standing host.new ≡ H.standing host.old }
+{
+    let Some(session) = work.sessions.join(name)? else {
+        output.push_reply(number, name.as_str(), &Reply::Refused(Refusal::Sessions))?;
+        return Ok(());
+    };
+    let statement = read_statement(alloc, text.as_str().as_bytes())?;
+    execute(
+        alloc,
+        number,
+        name.as_str(),
+        session,
+        statement,
+        &mut work.database,
+        &mut work.log,
+        output,
+        host,
+    )
+}
+
+// Executes a statement of a session, and gathers its lines.
+#[tactic(auto, using(crate::proofs::Fronts::nothing_yet))]
+fn execute<H: Host>(
+    alloc: Global,
+    number: u64,
+    name: &str,
+    session: u32,
+    statement: Option<Statement>,
+    database: &mut Database,
+    log: &mut StatementLog,
+    output: &mut Output,
+    host: &mut H,
+) -> Result<(), Status>
+    requires opened { IsOpen (H.standing host.old) }
+    requires sound { IsSound log.old }
+    requires room { HasRoom database.old.commits log.old }
+    requires logged { H.tells → IsHonest (H.standing host.old) → IsLog (H.files host.old) log.old }
+    ensures database { OnOk result (database.new ≡ (performed database.old statement).database) }
+    ensures last { OnOk result (log.new.last ≡ last_after log.old.last session (performed database.old statement).reply) }
+    ensures sound { OnOk result (IsSound log.new) }
+    ensures room { OnOk result (HasRoom database.new.commits log.new) }
+    ensures logged { H.tells → IsHonest (H.standing host.old) → OnOk result (IsLog (H.files host.new) log.new) }
+    ensures texts { H.tells → IsHonest (H.standing host.old) → OnOk result (texts_in (H.files host.new) ≡ texts_in (H.files host.old) ++ logged log.old.last session statement (performed database.old statement).reply) }
+    ensures others { H.tells → IsHonest (H.standing host.old) → OnlyLog (H.files host.old) (H.files host.new) }
+    ensures done { H.tells → OnOk result (H.written host.new ++ output.new ≡ H.written host.old ++ (output.old ++ outcome_lines number name.now (performed database.old statement))) }
+    ensures front { H.tells → WritesFront (H.written host.old) (H.written host.new) (output.old ++ outcome_lines number name.now (performed database.old statement)) }
+    ensures output_fault { IsErrOf result Status.OutputFault → Rose (H.output_faults host.old) (H.output_faults host.new) }
+    ensures disk_fault { IsErrOf result Status.DiskFault → Rose (H.disk_faults host.old) (H.disk_faults host.new) }
+    ensures only { IsErrOf result Status.Done ⊎ (IsErrOf result Status.Usage ⊎ (IsErrOf result Status.InputFault ⊎ IsErrOf result Status.InputTooLong)) → ⊥ }
+    ensures whole { IfErr result (λ status. is_damaged status ≡ false) }
+    ensures output_later { H.output_faults host.old ≤ H.output_faults host.new }
+    ensures disk_later { H.disk_faults host.old ≤ H.disk_faults host.new }
+    ensures unread { H.unread host.new ≡ H.unread host.old }
+    ensures input_faults { H.input_faults host.new ≡ H.input_faults host.old }
+    ensures standing { H.standing host.new ≡ H.standing host.old }
+{
+    match statement {
         Some(Statement::Select { table }) => {
-            select(alloc, number, table, database, output, host)?;
+            select(alloc, number, name, table, database, output, host)?;
             Ok(())
         }
         Some(Statement::Create { table, columns }) => {
-            let reply = database.create(alloc, table, columns)?;
-            output.push_reply(number, &reply)?;
-            Ok(())
+            let statement = Statement::Create { table, columns };
+            change(
+                alloc, number, name, session, statement, database, log, output, host,
+            )
         }
         Some(Statement::Insert { table, row }) => {
-            let reply = database.insert(table, row)?;
-            output.push_reply(number, &reply)?;
-            Ok(())
+            let statement = Statement::Insert { table, row };
+            change(
+                alloc, number, name, session, statement, database, log, output, host,
+            )
         }
         None => {
-            output.push_reply(number, &Reply::Refused(Refusal::NotBuilt))?;
+            output.push_reply(number, name, &Reply::Refused(Refusal::NotBuilt))?;
             Ok(())
         }
     }
+}
+
+// Changes the database, and logs the commit before its reply is gathered.
+#[tactic(auto, using(crate::proofs::Fronts::nothing_yet))]
+fn change<H: Host>(
+    alloc: Global,
+    number: u64,
+    name: &str,
+    session: u32,
+    statement: Statement,
+    database: &mut Database,
+    log: &mut StatementLog,
+    output: &mut Output,
+    host: &mut H,
+) -> Result<(), Status>
+    requires change { IsChange statement }
+    requires opened { IsOpen (H.standing host.old) }
+    requires sound { IsSound log.old }
+    requires room { HasRoom database.old.commits log.old }
+    requires logged { H.tells → IsHonest (H.standing host.old) → IsLog (H.files host.old) log.old }
+    ensures database { OnOk result (database.new ≡ (executed database.old statement).database) }
+    ensures last { OnOk result (log.new.last ≡ last_after log.old.last session (executed database.old statement).reply) }
+    ensures sound { OnOk result (IsSound log.new) }
+    ensures room { OnOk result (HasRoom database.new.commits log.new) }
+    ensures logged { H.tells → IsHonest (H.standing host.old) → OnOk result (IsLog (H.files host.new) log.new) }
+    ensures texts { H.tells → IsHonest (H.standing host.old) → OnOk result (texts_in (H.files host.new) ≡ texts_in (H.files host.old) ++ logged log.old.last session (Some statement) (executed database.old statement).reply) }
+    ensures others { H.tells → IsHonest (H.standing host.old) → OnlyLog (H.files host.old) (H.files host.new) }
+    ensures done { H.tells → OnOk result (H.written host.new ++ output.new ≡ H.written host.old ++ (output.old ++ outcome_lines number name.now (executed database.old statement))) }
+    ensures front { H.tells → WritesFront (H.written host.old) (H.written host.new) (output.old ++ outcome_lines number name.now (executed database.old statement)) }
+    ensures output_fault { IsErrOf result Status.OutputFault → Rose (H.output_faults host.old) (H.output_faults host.new) }
+    ensures disk_fault { IsErrOf result Status.DiskFault → Rose (H.disk_faults host.old) (H.disk_faults host.new) }
+    ensures only { IsErrOf result Status.Done ⊎ (IsErrOf result Status.Usage ⊎ (IsErrOf result Status.InputFault ⊎ IsErrOf result Status.InputTooLong)) → ⊥ }
+    ensures whole { IfErr result (λ status. is_damaged status ≡ false) }
+    ensures output_later { H.output_faults host.old ≤ H.output_faults host.new }
+    ensures disk_later { H.disk_faults host.old ≤ H.disk_faults host.new }
+    ensures unread { H.unread host.new ≡ H.unread host.old }
+    ensures input_faults { H.input_faults host.new ≡ H.input_faults host.old }
+    ensures standing { H.standing host.new ≡ H.standing host.old }
+{
+    let text = commit_text(alloc, log.last, session, &statement)?;
+    let end = log.end();
+    prove!(database.commits < end);
+    let reply = database.change(alloc, statement)?;
+    log_commit(&reply, session, &text, log, host)?;
+    output.push_reply(number, name, &reply)?;
+    Ok(())
+}
+
+// Logs the text of a commit, where a reply is that of a commit.
+fn log_commit<H: Host>(
+    reply: &Reply,
+    session: u32,
+    text: &Bytes,
+    log: &mut StatementLog,
+    host: &mut H,
+) -> Result<(), Status>
+    requires opened { IsOpen (H.standing host.old) }
+    requires sound { IsSound log.old }
+    requires logged { H.tells → IsHonest (H.standing host.old) → IsLog (H.files host.old) log.old }
+    ensures last { OnOk result (log.new.last ≡ last_after log.old.last session reply.now) }
+    ensures sound { OnOk result (IsSound log.new) }
+    ensures room { (n : ℕ) → HasRoom n log.old → OnOk result (HasRoom (commits_after n reply.now) log.new) }
+    ensures logged { H.tells → IsHonest (H.standing host.old) → OnOk result (IsLog (H.files host.new) log.new) }
+    ensures texts { H.tells → IsHonest (H.standing host.old) → OnOk result (texts_in (H.files host.new) ≡ texts_in (H.files host.old) ++ if_commit reply.now text.now) }
+    ensures others { H.tells → IsHonest (H.standing host.old) → OnlyLog (H.files host.old) (H.files host.new) }
+    ensures disk_fault { IsErrOf result Status.DiskFault → Rose (H.disk_faults host.old) (H.disk_faults host.new) }
+    ensures only { IsErrOf result Status.Done ⊎ (IsErrOf result Status.Usage ⊎ (IsErrOf result Status.InputFault ⊎ (IsErrOf result Status.OutputFault ⊎ IsErrOf result Status.InputTooLong))) → ⊥ }
+    ensures whole { IfErr result (λ status. is_damaged status ≡ false) }
+    ensures disk_later { H.disk_faults host.old ≤ H.disk_faults host.new }
+    ensures standing { H.standing host.new ≡ H.standing host.old }
+    ensures unread { H.unread host.new ≡ H.unread host.old }
+    ensures input_faults { H.input_faults host.new ≡ H.input_faults host.old }
+    ensures written { H.written host.new ≡ H.written host.old }
+    ensures output_faults { H.output_faults host.new ≡ H.output_faults host.old }
+{
+    if !reply.is_commit() {
+        return Ok(());
+    }
+    log.commit(host, session, text)
 }
 
 // Gathers the answer of a query.
@@ -91,23 +300,29 @@ fn perform<H: Host>(
 fn select<H: Host>(
     alloc: Global,
     number: u64,
+    session: &str,
     name: Name,
     database: &Database,
     output: &mut Output,
     host: &mut H,
 ) -> Result<(), Status>
-    ensures done { H.tells → OnOk result (H.written host.new ++ output.new ≡ H.written host.old ++ (output.old ++ outcome_lines number (executed database.now (Statement.Select name)))) }
-    ensures front { H.tells → WritesFront (H.written host.old) (H.written host.new) (output.old ++ outcome_lines number (executed database.now (Statement.Select name))) }
+    ensures done { H.tells → OnOk result (H.written host.new ++ output.new ≡ H.written host.old ++ (output.old ++ outcome_lines number session.now (executed database.now (Statement.Select name)))) }
+    ensures front { H.tells → WritesFront (H.written host.old) (H.written host.new) (output.old ++ outcome_lines number session.now (executed database.now (Statement.Select name))) }
     ensures output_fault { IsErrOf result Status.OutputFault → Rose (H.output_faults host.old) (H.output_faults host.new) }
-    ensures only { IsErrOf result Status.Done ⊎ (IsErrOf result Status.Usage ⊎ (IsErrOf result Status.InputFault ⊎ IsErrOf result Status.InputTooLong)) → ⊥ }
-    ensures later { H.output_faults host.old ≤ H.output_faults host.new }
+    ensures only { IsErrOf result Status.Done ⊎ (IsErrOf result Status.Usage ⊎ (IsErrOf result Status.InputFault ⊎ (IsErrOf result Status.DiskFault ⊎ IsErrOf result Status.InputTooLong))) → ⊥ }
+    ensures whole { IfErr result (λ status. is_damaged status ≡ false) }
+    ensures output_later { H.output_faults host.old ≤ H.output_faults host.new }
     ensures unread { H.unread host.new ≡ H.unread host.old }
     ensures input_faults { H.input_faults host.new ≡ H.input_faults host.old }
+    ensures files { H.files host.new ≡ H.files host.old }
+    ensures standing { H.standing host.new ≡ H.standing host.old }
+    ensures disk_faults { H.disk_faults host.new ≡ H.disk_faults host.old }
 {
     match database.tables.table(name.as_str()) {
-        Some(table) => push_answer(alloc, number, table, output, host),
+        Some(table) => push_answer(alloc, number, session, table, output, host),
         None => {
-            output.push_reply(number, &Reply::Refused(Refusal::NoSuch(name)))?;
+            let reply = Reply::Refused(Refusal::NoSuch(name));
+            output.push_reply(number, session, &reply)?;
             Ok(())
         }
     }
@@ -117,25 +332,30 @@ fn select<H: Host>(
 fn push_answer<H: Host>(
     alloc: Global,
     number: u64,
+    session: &str,
     table: &Table,
     output: &mut Output,
     host: &mut H,
 ) -> Result<(), Status>
-    ensures done { H.tells → OnOk result (H.written host.new ++ output.new ≡ H.written host.old ++ (output.old ++ answer_lines number table.now)) }
-    ensures front { H.tells → WritesFront (H.written host.old) (H.written host.new) (output.old ++ answer_lines number table.now) }
+    ensures done { H.tells → OnOk result (H.written host.new ++ output.new ≡ H.written host.old ++ (output.old ++ answer_lines number session.now table.now)) }
+    ensures front { H.tells → WritesFront (H.written host.old) (H.written host.new) (output.old ++ answer_lines number session.now table.now) }
     ensures output_fault { IsErrOf result Status.OutputFault → Rose (H.output_faults host.old) (H.output_faults host.new) }
-    ensures only { IsErrOf result Status.Done ⊎ (IsErrOf result Status.Usage ⊎ (IsErrOf result Status.InputFault ⊎ IsErrOf result Status.InputTooLong)) → ⊥ }
-    ensures later { H.output_faults host.old ≤ H.output_faults host.new }
+    ensures only { IsErrOf result Status.Done ⊎ (IsErrOf result Status.Usage ⊎ (IsErrOf result Status.InputFault ⊎ (IsErrOf result Status.DiskFault ⊎ IsErrOf result Status.InputTooLong))) → ⊥ }
+    ensures whole { IfErr result (λ status. is_damaged status ≡ false) }
+    ensures output_later { H.output_faults host.old ≤ H.output_faults host.new }
     ensures unread { H.unread host.new ≡ H.unread host.old }
     ensures input_faults { H.input_faults host.new ≡ H.input_faults host.old }
+    ensures files { H.files host.new ≡ H.files host.old }
+    ensures standing { H.standing host.new ≡ H.standing host.old }
+    ensures disk_faults { H.disk_faults host.new ≡ H.disk_faults host.old }
 {
     let rows = sorted(alloc, table)?;
-    push_rows(number, rows.as_slice(), output, host)?;
+    push_rows(number, session, rows.as_slice(), output, host)?;
     let reply = Reply::Done {
         count: Some(table.rows.len() as u64),
         committed: None,
     };
-    output.push_reply(number, &reply)?;
+    output.push_reply(number, session, &reply)?;
     Ok(())
 }
 
@@ -143,20 +363,25 @@ fn push_answer<H: Host>(
 #[tactic(auto, using(crate::proofs::Fronts::nothing_yet))]
 fn push_rows<H: Host>(
     number: u64,
+    session: &str,
     rows: &[&Row],
     output: &mut Output,
     host: &mut H,
 ) -> Result<(), Status>
-    ensures done { H.tells → OnOk result (H.written host.new ++ output.new ≡ H.written host.old ++ (output.old ++ rows_lines number (codes "a") (map (λ r. r.now) rows.now))) }
-    ensures front { H.tells → WritesFront (H.written host.old) (H.written host.new) (output.old ++ rows_lines number (codes "a") (map (λ r. r.now) rows.now)) }
+    ensures done { H.tells → OnOk result (H.written host.new ++ output.new ≡ H.written host.old ++ (output.old ++ rows_lines number session.now (map (λ r. r.now) rows.now))) }
+    ensures front { H.tells → WritesFront (H.written host.old) (H.written host.new) (output.old ++ rows_lines number session.now (map (λ r. r.now) rows.now)) }
     ensures output_fault { IsErrOf result Status.OutputFault → Rose (H.output_faults host.old) (H.output_faults host.new) }
-    ensures only { IsErrOf result Status.Done ⊎ (IsErrOf result Status.Usage ⊎ (IsErrOf result Status.InputFault ⊎ IsErrOf result Status.InputTooLong)) → ⊥ }
-    ensures later { H.output_faults host.old ≤ H.output_faults host.new }
+    ensures only { IsErrOf result Status.Done ⊎ (IsErrOf result Status.Usage ⊎ (IsErrOf result Status.InputFault ⊎ (IsErrOf result Status.DiskFault ⊎ IsErrOf result Status.InputTooLong))) → ⊥ }
+    ensures whole { IfErr result (λ status. is_damaged status ≡ false) }
+    ensures output_later { H.output_faults host.old ≤ H.output_faults host.new }
     ensures unread { H.unread host.new ≡ H.unread host.old }
     ensures input_faults { H.input_faults host.new ≡ H.input_faults host.old }
+    ensures files { H.files host.new ≡ H.files host.old }
+    ensures standing { H.standing host.new ≡ H.standing host.old }
+    ensures disk_faults { H.disk_faults host.new ≡ H.disk_faults host.old }
 {
     for row in rows {
-        output.push_row(number, row.as_slice())?;
+        output.push_row(number, session, row.as_slice())?;
         hand_over_much(output, host)?;
     }
     Ok(())

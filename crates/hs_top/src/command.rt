@@ -1,16 +1,18 @@
 // The command line.
 ghost use Rattle.std.specs.Prelude.{◌≡◌};
-ghost use Rattle.hs_top.specs.Command.{is_command, is_database};
+ghost use Rattle.std.specs.Option.{option_copied};
+ghost use Rattle.hs_top.specs.Command.{database_of, is_database};
 
 use hs_values::{Chars, Words};
 
-/// Whether the words are those of the command: the program's own name, and the name of a database.
-pub fn is_command(words: &Words) -> bool
-    ensures { result ≡ is_command words.now }
+/// The name of the database, where the words are those of the command: the program's own name, and the name of
+/// a database.
+pub fn database_of(words: &Words) -> Option<&Chars>
+    ensures { option_copied result ≡ database_of words.now }
 {
     match words.as_slice() {
-        [_, database] => is_database(database),
-        _ => false,
+        [_, database] if is_database(database) => Some(database),
+        _ => None,
     }
 }
 

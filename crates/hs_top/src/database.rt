@@ -1,13 +1,15 @@
 // The database, and what statements do to it.
-ghost use Rattle.std.specs.Prelude.{◌≡◌, ◌<◌, ◌^◌, ◌≤◌, ◌+◌, [], ℕ, List, Option, None, Some, map, length, IfOk, IfSome, MatchOption};
+ghost use Rattle.std.specs.Prelude.{◌≡◌, true, ◌<◌, ◌^◌, ◌≤◌, ◌+◌, [], ℕ, List, Option, None, Some, map, length, IfOk, IfSome, MatchOption};
 ghost use Rattle.std.specs.Option.{option_copied};
 ghost use Rattle.hs_values.specs.Sorted.{sorted_rows};
-ghost use Rattle.hs_top.specs.declared.statement.Statement.{Statement};
 ghost use Rattle.hs_top.specs.Database.{new_database, table_of, is_among, first_repeated, executed};
+ghost use Rattle.hs_top.specs.CommitText.{IsChange};
+ghost use Rattle.hs_top.specs.Machine.{commits_after};
 
 use crate::names::Names;
 use crate::refusal::Refusal;
 use crate::reply::Reply;
+use crate::statement::Statement;
 use crate::table::{MOST_TABLES, Table, Tables};
 use hs_values::{Name, Row, RowList, sort_rows};
 use std::alloc::{AllocError, Global};
@@ -30,10 +32,25 @@ impl Database {
         }
     }
 
-    /// Makes a table without rows.
-    pub fn create(&mut self, alloc: Global, name: Name, columns: Names) -> Result<Reply, AllocError>
+    /// Does what a statement other than a query asks for.
+    pub fn change(&mut self, alloc: Global, statement: Statement) -> Result<Reply, AllocError>
+        requires change { IsChange statement }
+        requires room { self.old.commits < 2 ^ 63 }
+        ensures done { IfOk result (λ reply. executed self.old statement ≡ record { rows = []; reply = reply; database = self.new }) }
+        ensures counted { IfOk result (λ reply. self.new.commits ≡ commits_after self.old.commits reply) }
+    {
+        match statement {
+            Statement::Create { table, columns } => self.create(alloc, table, columns),
+            Statement::Insert { table, row } => self.insert(table, row),
+            Statement::Select { .. } => unreachable!(),
+        }
+    }
+
+    // Makes a table without rows.
+    fn create(&mut self, alloc: Global, name: Name, columns: Names) -> Result<Reply, AllocError>
         requires { self.old.commits < 2 ^ 63 }
-        ensures { IfOk result (λ reply. executed self.old (Statement.Create name columns) ≡ record { rows = []; reply = reply; database = self.new }) }
+        ensures counted { IfOk result (λ reply. self.new.commits ≡ commits_after self.old.commits reply) }
+        ensures done { IfOk result (λ reply. executed self.old (Statement.Create name columns) ≡ record { rows = []; reply = reply; database = self.new }) }
     {
         if self.tables.table(name.as_str()).is_some() {
             return Ok(Reply::Refused(Refusal::Exists(name)));
@@ -52,10 +69,11 @@ impl Database {
         Ok(self.commit(None))
     }
 
-    /// Puts a row into a table.
-    pub fn insert(&mut self, name: Name, row: Row) -> Result<Reply, AllocError>
+    // Puts a row into a table.
+    fn insert(&mut self, name: Name, row: Row) -> Result<Reply, AllocError>
         requires { self.old.commits < 2 ^ 63 }
-        ensures { IfOk result (λ reply. executed self.old (Statement.Insert name row) ≡ record { rows = []; reply = reply; database = self.new }) }
+        ensures counted { IfOk result (λ reply. self.new.commits ≡ commits_after self.old.commits reply) }
+        ensures done { IfOk result (λ reply. executed self.old (Statement.Insert name row) ≡ record { rows = []; reply = reply; database = self.new }) }
     {
         let Some(table) = self.tables.table(name.as_str()) else {
             return Ok(Reply::Refused(Refusal::NoSuch(name)));

@@ -1,7 +1,8 @@
 // Hands output over to the host.
-ghost use Rattle.std.specs.Prelude.{◌≡◌, ◌⊎◌, ℕ, ◌≤◌, [], List, ◌++◌, OnOk, OnErr, IsErrOf};
+ghost use Rattle.std.specs.Prelude.{◌≡◌, ◌⊎◌, ℕ, ◌≤◌, [], List, ◌++◌, false, OnOk, IfErr, IsErrOf};
 ghost use Rattle.hs_host.specs.Host.{HasCause, Rose};
 ghost use Rattle.hs_top.specs.Machine.{WritesFront};
+ghost use Rattle.hs_top.specs.Running.{is_damaged};
 
 use crate::output::Output;
 use crate::status::Status;
@@ -16,10 +17,14 @@ pub fn hand_over<H: Host>(output: &mut Output, host: &mut H) -> Result<(), Statu
     ensures done { H.tells → OnOk result (H.written host.new ≡ H.written host.old ++ output.old) }
     ensures front { H.tells → WritesFront (H.written host.old) (H.written host.new) output.old }
     ensures output_fault { IsErrOf result Status.OutputFault → Rose (H.output_faults host.old) (H.output_faults host.new) }
-    ensures only { IsErrOf result Status.Done ⊎ (IsErrOf result Status.Usage ⊎ (IsErrOf result Status.InputFault ⊎ IsErrOf result Status.InputTooLong)) → ⊥ }
-    ensures later { H.output_faults host.old ≤ H.output_faults host.new }
+    ensures only { IsErrOf result Status.Done ⊎ (IsErrOf result Status.Usage ⊎ (IsErrOf result Status.InputFault ⊎ (IsErrOf result Status.DiskFault ⊎ IsErrOf result Status.InputTooLong))) → ⊥ }
+    ensures whole { IfErr result (λ status. is_damaged status ≡ false) }
+    ensures output_later { H.output_faults host.old ≤ H.output_faults host.new }
     ensures unread { H.unread host.new ≡ H.unread host.old }
     ensures input_faults { H.input_faults host.new ≡ H.input_faults host.old }
+    ensures files { H.files host.new ≡ H.files host.old }
+    ensures standing { H.standing host.new ≡ H.standing host.old }
+    ensures disk_faults { H.disk_faults host.new ≡ H.disk_faults host.old }
 {
     write_all(host, output.as_bytes())?;
     output.clear();
@@ -32,10 +37,14 @@ pub fn hand_over_much<H: Host>(output: &mut Output, host: &mut H) -> Result<(), 
     ensures done { H.tells → OnOk result (H.written host.new ++ output.new ≡ H.written host.old ++ output.old) }
     ensures front { H.tells → WritesFront (H.written host.old) (H.written host.new) output.old }
     ensures output_fault { IsErrOf result Status.OutputFault → Rose (H.output_faults host.old) (H.output_faults host.new) }
-    ensures only { IsErrOf result Status.Done ⊎ (IsErrOf result Status.Usage ⊎ (IsErrOf result Status.InputFault ⊎ IsErrOf result Status.InputTooLong)) → ⊥ }
-    ensures later { H.output_faults host.old ≤ H.output_faults host.new }
+    ensures only { IsErrOf result Status.Done ⊎ (IsErrOf result Status.Usage ⊎ (IsErrOf result Status.InputFault ⊎ (IsErrOf result Status.DiskFault ⊎ IsErrOf result Status.InputTooLong))) → ⊥ }
+    ensures whole { IfErr result (λ status. is_damaged status ≡ false) }
+    ensures output_later { H.output_faults host.old ≤ H.output_faults host.new }
     ensures unread { H.unread host.new ≡ H.unread host.old }
     ensures input_faults { H.input_faults host.new ≡ H.input_faults host.old }
+    ensures files { H.files host.new ≡ H.files host.old }
+    ensures standing { H.standing host.new ≡ H.standing host.old }
+    ensures disk_faults { H.disk_faults host.new ≡ H.disk_faults host.old }
 {
     if output.len() < MOST_GATHERED {
         return Ok(());
@@ -48,10 +57,14 @@ fn write_all<H: Host>(host: &mut H, bytes: &[u8]) -> Result<(), Status>
     ensures done { H.tells → OnOk result (H.written host.new ≡ H.written host.old ++ bytes.now) }
     ensures front { H.tells → WritesFront (H.written host.old) (H.written host.new) bytes.now }
     ensures output_fault { IsErrOf result Status.OutputFault → Rose (H.output_faults host.old) (H.output_faults host.new) }
-    ensures only { IsErrOf result Status.Done ⊎ (IsErrOf result Status.Usage ⊎ (IsErrOf result Status.InputFault ⊎ IsErrOf result Status.InputTooLong)) → ⊥ }
-    ensures later { H.output_faults host.old ≤ H.output_faults host.new }
+    ensures only { IsErrOf result Status.Done ⊎ (IsErrOf result Status.Usage ⊎ (IsErrOf result Status.InputFault ⊎ (IsErrOf result Status.DiskFault ⊎ IsErrOf result Status.InputTooLong))) → ⊥ }
+    ensures whole { IfErr result (λ status. is_damaged status ≡ false) }
+    ensures output_later { H.output_faults host.old ≤ H.output_faults host.new }
     ensures unread { H.unread host.new ≡ H.unread host.old }
     ensures input_faults { H.input_faults host.new ≡ H.input_faults host.old }
+    ensures files { H.files host.new ≡ H.files host.old }
+    ensures standing { H.standing host.new ≡ H.standing host.old }
+    ensures disk_faults { H.disk_faults host.new ≡ H.disk_faults host.old }
 {
     let mut rest = bytes;
     while !rest.is_empty() {

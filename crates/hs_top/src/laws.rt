@@ -1,6 +1,12 @@
-// Laws of the machine, which say that its definition means what it is to mean.
-ghost use Rattle.std.specs.Prelude.{◌≡◌, []};
+// Laws of the machine and of texts, which say that their definitions mean what they are to mean.
+ghost use Rattle.std.specs.Prelude.{◌≡◌, ℕ, List, [], ◌++◌, Option, Some, Ok, IfSome};
+ghost use Rattle.hs_top.specs.declared.commit_text.Commit.{Commit};
+ghost use Rattle.hs_top.specs.declared.statement.Statement.{Statement};
 ghost use Rattle.hs_top.specs.Machine.{Machine, IsOver, turn, steps, turns_left};
+ghost use Rattle.hs_top.specs.Opening.{Opened, opened_of, replayed, texts_at, texts_from, ended_with, IsWholeLog};
+ghost use Rattle.hs_top.specs.Statement.{statement_of};
+ghost use Rattle.hs_top.specs.Spelling.{IsSpellable, spelled};
+ghost use Rattle.hs_top.specs.CommitText.{commit_text, commit_of, IsSession, IsLawful};
 
 /// Every run comes to its end: after the turns that a machine has left, none is left.
 pub fn runs_end()
@@ -9,5 +15,34 @@ pub fn runs_end()
 
 /// A machine that has come to its end stays as it is and writes nothing.
 pub fn turns_change_nothing_at_the_end()
-    ensures { (m : Machine) → IsOver m → turn m ≡ record { lines = []; next = m } }
+    ensures { (m : Machine) → IsOver m → turn m ≡ record { lines = []; texts = []; next = m } }
+{}
+
+/// A text that is read as a statement is the one spelling of that statement.
+pub fn statements_are_spelled()
+    ensures { (text : List ℕ) (s : Statement) → statement_of text ≡ Some s → (text ≡ spelled s) × IsSpellable s }
+{}
+
+/// The spelling of a statement is read as that statement.
+pub fn spelled_statements_are_read()
+    ensures { (s : Statement) → IsSpellable s → statement_of (spelled s) ≡ Some s }
+{}
+
+/// A text that is read as a commit is the one text of that commit behind the group before it, and the commit
+/// is one that has a text.
+pub fn commits_are_spelled()
+    ensures text { (before : Option ℕ) (text : List ℕ) (c : Commit) → commit_of before text ≡ Some c → text ≡ commit_text before c.session c.statement }
+    ensures lawful { (before : Option ℕ) (text : List ℕ) (c : Commit) → IfSome before IsSession → commit_of before text ≡ Some c → IsLawful c }
+{}
+
+/// The text of a commit is read as that commit.
+pub fn spelled_commits_are_read()
+    ensures { (before : Option ℕ) (c : Commit) → IsLawful c → commit_of before (commit_text before c.session c.statement) ≡ Some c }
+{}
+
+/// The texts that a run logs make again what it made: behind what its log gave, they give the database with
+/// which it ended. So does the whole log that it leaves.
+pub fn a_log_gives_what_the_runs_made()
+    ensures texts { (opened : Opened) (input : List ℕ) → IfSome opened.last IsSession → replayed opened (texts_from opened input) ≡ Ok (ended_with opened input) }
+    ensures whole { (old new : List ℕ) (opened : Opened) (input : List ℕ) → opened_of old ≡ Ok opened → IsWholeLog new (texts_at old ++ texts_from opened input) → opened_of new ≡ Ok (ended_with opened input) }
 {}

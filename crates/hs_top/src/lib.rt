@@ -3,25 +3,39 @@
 
 mod answer;
 mod command;
+mod commit_text;
+mod damage;
 mod database;
 mod hand_over;
-mod input_fault;
 mod integer;
-mod item;
 mod laws;
 mod names;
+mod opening;
 mod output;
-mod reader;
 mod refusal;
 mod reply;
 mod run_over;
 mod running;
+mod sessions;
 mod statement;
+mod statement_log;
 mod status;
 mod table;
 #[cfg(test)]
 mod tests;
+#[cfg(test)]
+mod tests_commit_text;
+#[cfg(test)]
+mod tests_log;
+#[cfg(test)]
+mod tests_support;
+mod values;
+mod work;
 
-pub use laws::{runs_end, turns_change_nothing_at_the_end};
+pub use damage::Damage;
+pub use laws::{
+    a_log_gives_what_the_runs_made, commits_are_spelled, runs_end, spelled_commits_are_read,
+    spelled_statements_are_read, statements_are_spelled, turns_change_nothing_at_the_end,
+};
 pub use run_over::run;
 pub use status::Status;

@@ -1,10 +1,11 @@
 // The output that is gathered, line by line.
 ghost use Rattle.std.specs.Prelude.{◌≡◌, ◌++◌, [], length, codes, OnOk};
 ghost use Rattle.std.specs.Fmt.{decimal};
-ghost use Rattle.hs_top.specs.Lines.{line, value_text, row_text, count_text, commit_text, text_or_nothing, refusal_text, session_of, reply_line, opened_line, closed_line};
+ghost use Rattle.hs_top.specs.Lines.{line, row_text, count_text, committed_text, text_or_nothing, refusal_text, reply_line, opened_line, closed_line};
 
 use crate::refusal::Refusal;
 use crate::reply::Reply;
+use crate::values::push_values;
 use hs_values::Value;
 use std::alloc::{AllocError, Global};
 use std::fmt::Write;
@@ -72,60 +73,44 @@ impl Output {
         write!(self.text, "closed at {commits}\n")
     }
 
-    /// The line of one row of the answer to item `number`.
-    pub fn push_row(&mut self, number: u64, row: &[Value]) -> Result<(), AllocError>
-        ensures { OnOk result (self.new ≡ self.old ++ line number (codes "a") (codes "row " ++ row_text row.now)) }
+    /// The line of one row of the answer to item `number` of a session.
+    pub fn push_row(&mut self, number: u64, session: &str, row: &[Value]) -> Result<(), AllocError>
+        ensures { OnOk result (self.new ≡ self.old ++ line number session.now (codes "row " ++ row_text row.now)) }
     {
-        write!(self.text, "{number} a: row ")?;
-        self.push_values(row)?;
+        write!(self.text, "{number} {session}: row ")?;
+        push_values(&mut self.text, row)?;
         self.text.push('\n')
     }
 
-    // The values of a row, with a comma between them.
-    fn push_values(&mut self, row: &[Value]) -> Result<(), AllocError>
-        ensures { OnOk result (self.new ≡ self.old ++ row_text row.now) }
-    {
-        let mut rest = row;
-        while let Some((value, more)) = rest.split_first() {
-            self.push_value(value)?;
-            if !more.is_empty() {
-                self.text.push(',')?;
-            }
-            rest = more;
-        }
-        Ok(())
-    }
-
-    fn push_value(&mut self, value: &Value) -> Result<(), AllocError>
-        ensures { OnOk result (self.new ≡ self.old ++ value_text value.now) }
-    {
-        match value {
-            Value::Int(n) => write!(self.text, "{n}"),
-            _ => Ok(()),
-        }
-    }
-
-    /// The line of the reply to item `number`.
-    pub fn push_reply(&mut self, number: u64, reply: &Reply) -> Result<(), AllocError>
-        ensures { OnOk result (self.new ≡ self.old ++ reply_line number reply.now) }
+    /// The line of the reply to item `number` of a session.
+    pub fn push_reply(
+        &mut self,
+        number: u64,
+        session: &str,
+        reply: &Reply,
+    ) -> Result<(), AllocError>
+        ensures { OnOk result (self.new ≡ self.old ++ reply_line number session.now reply.now) }
     {
         match reply {
-            Reply::Done { count, committed } => self.push_done(number, *count, *committed),
-            Reply::Refused(refusal) => self.push_refused(number, refusal),
+            Reply::Done { count, committed } => {
+                self.push_done(number, session, *count, *committed)
+            }
+            Reply::Refused(refusal) => self.push_refused(number, session, refusal),
         }
     }
 
     fn push_done(
         &mut self,
         number: u64,
+        session: &str,
         count: Option<u64>,
         committed: Option<u64>,
     ) -> Result<(), AllocError>
-        ensures { OnOk result (self.new ≡ self.old ++ line number (codes "a") (codes "ok" ++ text_or_nothing count_text count ++ text_or_nothing commit_text committed)) }
+        ensures { OnOk result (self.new ≡ self.old ++ line number session.now (codes "ok" ++ text_or_nothing count_text count ++ text_or_nothing committed_text committed)) }
     {
-        write!(self.text, "{number} a: ok")?;
+        write!(self.text, "{number} {session}: ok")?;
         self.push_count(count)?;
-        self.push_commit(committed)?;
+        self.push_committed(committed)?;
         self.text.push('\n')
     }
 
@@ -139,8 +124,8 @@ impl Output {
         }
     }
 
-    fn push_commit(&mut self, committed: Option<u64>) -> Result<(), AllocError>
-        ensures { OnOk result (self.new ≡ self.old ++ text_or_nothing commit_text committed) }
+    fn push_committed(&mut self, committed: Option<u64>) -> Result<(), AllocError>
+        ensures { OnOk result (self.new ≡ self.old ++ text_or_nothing committed_text committed) }
     {
         match committed {
             Some(n) => write!(self.text, " committed {n}"),
@@ -148,19 +133,29 @@ impl Output {
         }
     }
 
-    fn push_refused(&mut self, number: u64, refusal: &Refusal) -> Result<(), AllocError>
-        ensures { OnOk result (self.new ≡ self.old ++ line number (session_of refusal.now) (codes "refused " ++ refusal_text refusal.now)) }
+    fn push_refused(
+        &mut self,
+        number: u64,
+        session: &str,
+        refusal: &Refusal,
+    ) -> Result<(), AllocError>
+        ensures { OnOk result (self.new ≡ self.old ++ line number session.now (codes "refused " ++ refusal_text refusal.now)) }
+    {
+        write!(self.text, "{number} {session}: refused ")?;
+        self.push_refusal(refusal)?;
+        self.text.push('\n')
+    }
+
+    fn push_refusal(&mut self, refusal: &Refusal) -> Result<(), AllocError>
+        ensures { OnOk result (self.new ≡ self.old ++ refusal_text refusal.now) }
     {
         match refusal {
-            Refusal::NotBuilt => write!(self.text, "{number} -: refused not built\n"),
-            Refusal::Exists(name) => {
-                let name = name.as_str();
-                write!(self.text, "{number} a: refused exists {name}\n")
-            }
-            Refusal::NoSuch(name) => {
-                let name = name.as_str();
-                write!(self.text, "{number} a: refused no such {name}\n")
-            }
+            Refusal::TooLong => self.text.push_str("too long"),
+            Refusal::Entry => self.text.push_str("entry"),
+            Refusal::Sessions => self.text.push_str("sessions"),
+            Refusal::NotBuilt => self.text.push_str("not built"),
+            Refusal::Exists(name) => write!(self.text, "exists {}", name.as_str()),
+            Refusal::NoSuch(name) => write!(self.text, "no such {}", name.as_str()),
         }
     }
 }

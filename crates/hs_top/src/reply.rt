@@ -14,3 +14,18 @@ pub enum Reply {
     /// It was refused, and nothing is changed.
     Refused(Refusal),
 }
+
+impl Reply {
+    ghost use Rattle.std.specs.Prelude.{◌≡◌};
+    ghost use Rattle.hs_top.specs.Machine.{is_commit};
+
+    /// Whether it is the reply of a commit.
+    pub fn is_commit(&self) -> bool
+        ensures { result ≡ is_commit self.now }
+    {
+        match self {
+            Reply::Done { committed, .. } => committed.is_some(),
+            Reply::Refused(_) => false,
+        }
+    }
+}

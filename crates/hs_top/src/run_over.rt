@@ -1,44 +1,80 @@
 // The top call.
-ghost use Rattle.std.specs.Prelude.{◌≡◌, ◌⊎◌, ◌↔◌, ℕ, ◌+◌, ◌^◌, ◌<◌, ◌≤◌, List, ◌++◌, true, false, length, OnOk, IsErrOf};
+ghost use Rattle.std.specs.Prelude.{◌≡◌, ◌⊎◌, ◌↔◌, ℕ, ◌+◌, ◌^◌, ◌<◌, ◌≤◌, List, ◌++◌, true, false, None, Some, Ok, Err, length, OnOk, IfErr, IsErrOf};
 ghost use Rattle.hs_host.specs.Host.{Rose};
-ghost use Rattle.hs_top.specs.Command.{is_command};
-ghost use Rattle.hs_top.specs.Machine.{WritesFront, transcript, transcript_within};
+ghost use Rattle.hs_host.specs.Files.{IsUnnamed, IsOpen, IsForeign, IsHonest};
+ghost use Rattle.hs_entries.specs.Items.{items};
+ghost use Rattle.hs_top.specs.Command.{database_of};
+ghost use Rattle.hs_top.specs.Machine.{WritesFront, transcript, transcript_within, machine, texts_of};
+ghost use Rattle.hs_top.specs.Opening.{Opened, opened_of, opened_by, begun_with, texts_at, texts_from, ended_with, shown, IsWholeLog, IsDamageOf};
+ghost use Rattle.hs_top.specs.Running.{IsLog, IsSound, HasRoom, OnlyLog, texts_in, is_damaged};
 
-use crate::command::is_command;
-use crate::database::Database;
+use crate::command::database_of;
+use crate::damage::Damage;
 use crate::hand_over::hand_over;
+use crate::opening::{Opening, open_log};
 use crate::output::Output;
-use crate::reader::Reader;
 use crate::running::Running;
+use crate::sessions::Sessions;
 use crate::status::Status;
-use hs_host::Host;
+use crate::work::Work;
+use hs_entries::EntryReader;
+use hs_host::{Host, MountFault};
 use hs_values::Words;
 use std::alloc::Global;
 
 /// How many bytes of the input are used at most.
 const MOST_INPUT: u64 = 1 << 30;
 
-/// Does all that the program does: answers the items of the input in their order, and writes the lines
-/// of the transcript, as far as it comes, to the output. The words are `hsql DATABASE`.
+/// Does all that the program does: opens the files of the database, answers the items of the input in their
+/// order, logs each commit before its reply, and writes the lines of the transcript, as far as it comes, to
+/// the output. The words are `hsql DATABASE`. The host has no name yet.
 ///
 /// The status says how the run ended and why. Whatever it is, what was written is a front of the
-/// transcript, and at `Done` it is all of it.
+/// transcript over the commits of the log. At `Done` it is all of it, the log's groups are the texts of all
+/// commits, and the next run begins with the database with which this one ended.
 #[tactic(auto, using(crate::proofs::Fronts::nothing_yet))]
 pub fn run<H: Host>(alloc: Global, words: &Words, host: &mut H) -> Status
-    ensures usage { (result ≡ Status.Usage) ↔ (is_command words.now ≡ false) }
-    ensures untouched { result ≡ Status.Usage → (H.written host.new ≡ H.written host.old) × (H.unread host.new ≡ H.unread host.old) }
-    ensures front { H.tells → WritesFront (H.written host.old) (H.written host.new) (transcript (H.unread host.old)) }
-    ensures done { H.tells → result ≡ Status.Done → H.written host.new ≡ H.written host.old ++ transcript (H.unread host.old) }
+    requires { IsUnnamed (H.standing host.old) }
+
+    // The words, and the name of the host.
+    ensures usage { (result ≡ Status.Usage) ↔ (database_of words.now ≡ None) }
+    ensures untouched { result ≡ Status.Usage → host.new ≡ host.old }
+    ensures name { (result ≡ Status.Usage → ⊥) → (result ≡ Status.NoMemory → ⊥) → (H.standing host.new).name ≡ database_of words.now }
+
+    // What is written.
+    ensures front { H.tells → IsHonest (H.standing host.old) → WritesFront (H.written host.old) (H.written host.new) (shown (opened_of (H.files host.old).log) (H.unread host.old)) }
+    ensures done { H.tells → IsHonest (H.standing host.old) → (opened : Opened) → opened_of (H.files host.old).log ≡ Ok opened → result ≡ Status.Done → H.written host.new ≡ H.written host.old ++ transcript (begun_with opened) (H.unread host.old) }
     ensures done_within { H.tells → result ≡ Status.Done → length (H.unread host.old) ≤ 2 ^ 30 }
+    ensures too_long { H.tells → result ≡ Status.InputTooLong → 2 ^ 30 < length (H.unread host.old) }
+    ensures before_too_long { H.tells → IsHonest (H.standing host.old) → (opened : Opened) → opened_of (H.files host.old).log ≡ Ok opened → result ≡ Status.InputTooLong → H.written host.new ≡ H.written host.old ++ transcript_within (2 ^ 30) (begun_with opened) (H.unread host.old) }
+
+    // What is logged.
+    ensures log { H.tells → IsHonest (H.standing host.old) → (opened : Opened) → opened_of (H.files host.old).log ≡ Ok opened → result ≡ Status.Done → IsWholeLog (H.files host.new).log (texts_at (H.files host.old).log ++ texts_from opened (H.unread host.old)) }
+    ensures reopens { H.tells → IsHonest (H.standing host.old) → (opened : Opened) → opened_of (H.files host.old).log ≡ Ok opened → result ≡ Status.Done → opened_of (H.files host.new).log ≡ Ok (ended_with opened (H.unread host.old)) }
+    ensures others { H.tells → IsHonest (H.standing host.old) → OnlyLog (H.files host.old) (H.files host.new) }
+
+    // Faults of the devices.
     ensures input_fault { result ≡ Status.InputFault → Rose (H.input_faults host.old) (H.input_faults host.new) }
     ensures output_fault { result ≡ Status.OutputFault → Rose (H.output_faults host.old) (H.output_faults host.new) }
-    ensures too_long { H.tells → result ≡ Status.InputTooLong → 2 ^ 30 < length (H.unread host.old) }
-    ensures before_too_long { H.tells → result ≡ Status.InputTooLong → H.written host.new ≡ H.written host.old ++ transcript_within (2 ^ 30) (H.unread host.old) }
-    ensures complete { H.tells → is_command words.now ≡ true → (Rose (H.input_faults host.old) (H.input_faults host.new) → ⊥) → (Rose (H.output_faults host.old) (H.output_faults host.new) → ⊥) → length (H.unread host.old) ≤ 2 ^ 30 → (result ≡ Status.Done) ⊎ (result ≡ Status.NoMemory) }
-    ensures complete_too_long { H.tells → is_command words.now ≡ true → (Rose (H.input_faults host.old) (H.input_faults host.new) → ⊥) → (Rose (H.output_faults host.old) (H.output_faults host.new) → ⊥) → 2 ^ 30 < length (H.unread host.old) → (result ≡ Status.InputTooLong) ⊎ (result ≡ Status.NoMemory) }
+    ensures disk_fault { result ≡ Status.DiskFault → Rose (H.disk_faults host.old) (H.disk_faults host.new) }
+
+    // Damaged files.
+    ensures foreign { H.tells → result ≡ Status.Damaged Damage.Foreign → IsForeign (H.standing host.old) }
+    ensures own { H.tells → IsForeign (H.standing host.old) → (result ≡ Status.Usage) ⊎ ((result ≡ Status.Damaged Damage.Foreign) ⊎ ((result ≡ Status.DiskFault) ⊎ (result ≡ Status.NoMemory))) }
+    ensures damaged { H.tells → IsHonest (H.standing host.old) → (number : ℕ) → result ≡ Status.Damaged (Damage.Log number) → opened_of (H.files host.old).log ≡ Err number }
+    ensures silent { is_damaged result ≡ true → (H.written host.new ≡ H.written host.old) × (H.unread host.new ≡ H.unread host.old) }
+    ensures kept { H.tells → IsHonest (H.standing host.old) → is_damaged result ≡ true → H.files host.new ≡ H.files host.old }
+
+    // Where no device fails, each run ends as it is to end, or for want of memory.
+    ensures complete { H.tells → IsHonest (H.standing host.old) → (IsForeign (H.standing host.old) → ⊥) → (database_of words.now ≡ None → ⊥) → (Rose (H.input_faults host.old) (H.input_faults host.new) → ⊥) → (Rose (H.output_faults host.old) (H.output_faults host.new) → ⊥) → (Rose (H.disk_faults host.old) (H.disk_faults host.new) → ⊥) → (opened : Opened) → opened_of (H.files host.old).log ≡ Ok opened → length (H.unread host.old) ≤ 2 ^ 30 → (result ≡ Status.Done) ⊎ (result ≡ Status.NoMemory) }
+    ensures complete_too_long { H.tells → IsHonest (H.standing host.old) → (IsForeign (H.standing host.old) → ⊥) → (database_of words.now ≡ None → ⊥) → (Rose (H.input_faults host.old) (H.input_faults host.new) → ⊥) → (Rose (H.output_faults host.old) (H.output_faults host.new) → ⊥) → (Rose (H.disk_faults host.old) (H.disk_faults host.new) → ⊥) → (opened : Opened) → opened_of (H.files host.old).log ≡ Ok opened → 2 ^ 30 < length (H.unread host.old) → (result ≡ Status.InputTooLong) ⊎ (result ≡ Status.NoMemory) }
+    ensures complete_damaged { H.tells → IsHonest (H.standing host.old) → (IsForeign (H.standing host.old) → ⊥) → (database_of words.now ≡ None → ⊥) → (Rose (H.disk_faults host.old) (H.disk_faults host.new) → ⊥) → (number : ℕ) → opened_of (H.files host.old).log ≡ Err number → (result ≡ Status.Damaged (Damage.Log number)) ⊎ (result ≡ Status.NoMemory) }
 {
-    if !is_command(words) {
+    let Some(name) = database_of(words) else {
         return Status::Usage;
+    };
+    if let Err(status) = mount(name.as_str(), host) {
+        return status;
     }
     match serve(alloc, host) {
         Ok(()) => Status::Done,
@@ -46,28 +82,103 @@ pub fn run<H: Host>(alloc: Global, words: &Words, host: &mut H) -> Status
     }
 }
 
-// Takes turns until none is left, and writes the first and the last line.
+// Opens the files of a database.
+fn mount<H: Host>(name: &str, host: &mut H) -> Result<(), Status>
+    requires { IsUnnamed (H.standing host.old) }
+    ensures opened { OnOk result (IsOpen (H.standing host.new)) }
+    ensures named { OnOk result ((H.standing host.new).name ≡ Some name.now) }
+    ensures named_at { IfErr result (λ status. (status ≡ Status.NoMemory → ⊥) → (H.standing host.new).name ≡ Some name.now) }
+    ensures honest { (H.standing host.new).is_honest ≡ (H.standing host.old).is_honest }
+    ensures only { IfErr result (λ status. (status ≡ Status.Damaged Damage.Foreign) ⊎ ((status ≡ Status.DiskFault) ⊎ (status ≡ Status.NoMemory))) }
+    ensures foreign { H.tells → IsErrOf result (Status.Damaged Damage.Foreign) → IsForeign (H.standing host.old) }
+    ensures own { H.tells → OnOk result (IsForeign (H.standing host.old) → ⊥) }
+    ensures files { H.tells → H.files host.new ≡ H.files host.old }
+    ensures disk_fault { IsErrOf result Status.DiskFault → Rose (H.disk_faults host.old) (H.disk_faults host.new) }
+    ensures disk_later { H.disk_faults host.old ≤ H.disk_faults host.new }
+    ensures unread { H.unread host.new ≡ H.unread host.old }
+    ensures input_faults { H.input_faults host.new ≡ H.input_faults host.old }
+    ensures written { H.written host.new ≡ H.written host.old }
+    ensures output_faults { H.output_faults host.new ≡ H.output_faults host.old }
+{
+    match host.mount(name) {
+        Ok(()) => Ok(()),
+        Err(MountFault::Foreign) => Err(Status::Damaged(Damage::Foreign)),
+        Err(MountFault::Fault) => Err(Status::DiskFault),
+        Err(MountFault::NoMemory) => Err(Status::NoMemory),
+    }
+}
+
+// Opens the log, and answers all items.
+#[tactic(auto, using(crate::proofs::Fronts::nothing_yet))]
 fn serve<H: Host>(alloc: Global, host: &mut H) -> Result<(), Status>
-    ensures front { H.tells → WritesFront (H.written host.old) (H.written host.new) (transcript (H.unread host.old)) }
-    ensures done { H.tells → OnOk result (H.written host.new ≡ H.written host.old ++ transcript (H.unread host.old)) }
+    requires { IsOpen (H.standing host.old) }
+    ensures front { H.tells → IsHonest (H.standing host.old) → WritesFront (H.written host.old) (H.written host.new) (shown (opened_of (H.files host.old).log) (H.unread host.old)) }
+    ensures opened { H.tells → IsHonest (H.standing host.old) → (number : ℕ) → opened_of (H.files host.old).log ≡ Err number → OnOk result ⊥ }
+    ensures done { H.tells → IsHonest (H.standing host.old) → (opened : Opened) → opened_of (H.files host.old).log ≡ Ok opened → OnOk result (H.written host.new ≡ H.written host.old ++ transcript (begun_with opened) (H.unread host.old)) }
+    ensures log { H.tells → IsHonest (H.standing host.old) → (opened : Opened) → opened_of (H.files host.old).log ≡ Ok opened → OnOk result (IsWholeLog (H.files host.new).log (texts_at (H.files host.old).log ++ texts_from opened (H.unread host.old))) }
+    ensures before_too_long { H.tells → IsHonest (H.standing host.old) → (opened : Opened) → opened_of (H.files host.old).log ≡ Ok opened → IsErrOf result Status.InputTooLong → H.written host.new ≡ H.written host.old ++ transcript_within (2 ^ 30) (begun_with opened) (H.unread host.old) }
+    ensures damaged { H.tells → IsHonest (H.standing host.old) → (damage : Damage) → IsErrOf result (Status.Damaged damage) → IsDamageOf (opened_of (H.files host.old).log) damage }
+    ensures undamaged { H.tells → IsHonest (H.standing host.old) → (number : ℕ) → opened_of (H.files host.old).log ≡ Err number → IfErr result (λ status. (status ≡ Status.Damaged (Damage.Log number)) ⊎ ((status ≡ Status.DiskFault) ⊎ (status ≡ Status.NoMemory))) }
+    ensures silent { IfErr result (λ status. is_damaged status ≡ true → (H.written host.new ≡ H.written host.old) × (H.unread host.new ≡ H.unread host.old)) }
+    ensures untouched { H.tells → IsHonest (H.standing host.old) → IfErr result (λ status. is_damaged status ≡ true → H.files host.new ≡ H.files host.old) }
+    ensures others { H.tells → IsHonest (H.standing host.old) → OnlyLog (H.files host.old) (H.files host.new) }
     ensures done_within { H.tells → OnOk result (length (H.unread host.old) ≤ 2 ^ 30) }
+    ensures too_long { H.tells → IsErrOf result Status.InputTooLong → 2 ^ 30 < length (H.unread host.old) }
     ensures input_fault { IsErrOf result Status.InputFault → Rose (H.input_faults host.old) (H.input_faults host.new) }
     ensures output_fault { IsErrOf result Status.OutputFault → Rose (H.output_faults host.old) (H.output_faults host.new) }
+    ensures disk_fault { IsErrOf result Status.DiskFault → Rose (H.disk_faults host.old) (H.disk_faults host.new) }
     ensures only { IsErrOf result Status.Done ⊎ IsErrOf result Status.Usage → ⊥ }
+    ensures own_files { IsErrOf result (Status.Damaged Damage.Foreign) → ⊥ }
+    ensures input_later { H.input_faults host.old ≤ H.input_faults host.new }
+    ensures output_later { H.output_faults host.old ≤ H.output_faults host.new }
+    ensures disk_later { H.disk_faults host.old ≤ H.disk_faults host.new }
+    ensures standing { H.standing host.new ≡ H.standing host.old }
+{
+    let opening = match open_log(alloc, host) {
+        Ok(opening) => opening,
+        Err(status) => return Err(status),
+    };
+    answer_all(alloc, opening, host)
+}
+
+// Takes turns until none is left, and writes the first and the last line.
+fn answer_all<H: Host>(alloc: Global, opening: Opening, host: &mut H) -> Result<(), Status>
+    requires opened { IsOpen (H.standing host.old) }
+    requires sound { IsSound opening.log }
+    requires room { HasRoom opening.database.commits opening.log }
+    requires logged { H.tells → IsHonest (H.standing host.old) → IsLog (H.files host.old) opening.log }
+    ensures front { H.tells → WritesFront (H.written host.old) (H.written host.new) (transcript (begun_with (opened_by opening)) (H.unread host.old)) }
+    ensures done { H.tells → OnOk result (H.written host.new ≡ H.written host.old ++ transcript (begun_with (opened_by opening)) (H.unread host.old)) }
+    ensures before_too_long { H.tells → IsErrOf result Status.InputTooLong → H.written host.new ≡ H.written host.old ++ transcript_within (2 ^ 30) (begun_with (opened_by opening)) (H.unread host.old) }
+    ensures log { H.tells → IsHonest (H.standing host.old) → OnOk result (IsWholeLog (H.files host.new).log (texts_in (H.files host.old) ++ texts_from (opened_by opening) (H.unread host.old))) }
+    ensures whole { IfErr result (λ status. is_damaged status ≡ false) }
+    ensures others { H.tells → IsHonest (H.standing host.old) → OnlyLog (H.files host.old) (H.files host.new) }
+    ensures done_within { H.tells → OnOk result (length (H.unread host.old) ≤ 2 ^ 30) }
     ensures too_long { H.tells → IsErrOf result Status.InputTooLong → 2 ^ 30 < length (H.unread host.old) }
-    ensures before_too_long { H.tells → IsErrOf result Status.InputTooLong → H.written host.new ≡ H.written host.old ++ transcript_within (2 ^ 30) (H.unread host.old) }
+    ensures input_fault { IsErrOf result Status.InputFault → Rose (H.input_faults host.old) (H.input_faults host.new) }
+    ensures output_fault { IsErrOf result Status.OutputFault → Rose (H.output_faults host.old) (H.output_faults host.new) }
+    ensures disk_fault { IsErrOf result Status.DiskFault → Rose (H.disk_faults host.old) (H.disk_faults host.new) }
+    ensures only { IsErrOf result Status.Done ⊎ IsErrOf result Status.Usage → ⊥ }
+    ensures own_files { IsErrOf result (Status.Damaged Damage.Foreign) → ⊥ }
+    ensures input_later { H.input_faults host.old ≤ H.input_faults host.new }
+    ensures output_later { H.output_faults host.old ≤ H.output_faults host.new }
+    ensures disk_later { H.disk_faults host.old ≤ H.disk_faults host.new }
+    ensures standing { H.standing host.new ≡ H.standing host.old }
 {
     let mut output = Output::new(alloc);
-    output.push_opened(0)?;
+    output.push_opened(opening.database.commits)?;
     let mut running = Running {
         alloc,
-        reader: Reader::new(alloc, MOST_INPUT)?,
+        reader: EntryReader::new(alloc, MOST_INPUT),
         output,
-        database: Database::new(alloc),
-        number: 0,
+        work: Work {
+            sessions: Sessions::new(alloc),
+            database: opening.database,
+            log: opening.log,
+        },
     };
     while running.turn(host)? {}
-    running.output.push_closed(running.database.commits)?;
+    running.output.push_closed(running.work.database.commits)?;
     hand_over(&mut running.output, host)?;
     Ok(())
 }

@@ -1,17 +1,18 @@
 // The program at work: one turn after another.
-ghost use Rattle.std.specs.Prelude.{◌≡◌, ◌⊎◌, ℕ, ◌+◌, ◌-◌, ◌^◌, ◌<◌, ◌≤◌, List, [], ◌∷◌, ◌++◌, true, false, length, take, IfOk, OnOk, IfSome, IsErrOf};
+ghost use Rattle.std.specs.Prelude.{◌≡◌, ◌⊎◌, ℕ, ◌+◌, ◌<◌, ◌≤◌, List, [], ◌++◌, None, true, false, IfOk, OnOk, IfErr, IsErrOf};
 ghost use Rattle.hs_host.specs.Host.{Rose};
-ghost use Rattle.hs_top.specs.Reader.{ahead, IsSound, TakesItem, RunsOut, TakesWhole, HasNoWhole};
-ghost use Rattle.hs_top.specs.Machine.{WritesFront, rest_of, lines_of};
+ghost use Rattle.hs_host.specs.Files.{IsOpen, IsHonest};
+ghost use Rattle.hs_entries.specs.Left.{TakesFirst, TakesWhole, RunsOut, IsBeyond, KeepsRoom};
+ghost use Rattle.hs_entries.specs.Reader.{ahead, kept, left, left_items, left_whole, room};
+ghost use Rattle.hs_top.specs.Machine.{WritesFront, rest_of, lines_of, texts_of};
+ghost use Rattle.hs_top.specs.Running.{is_damaged, is_end};
 
 use crate::answer::answer;
-use crate::database::Database;
 use crate::hand_over::hand_over;
-use crate::input_fault::InputFault;
-use crate::item::Item;
 use crate::output::Output;
-use crate::reader::Reader;
 use crate::status::Status;
+use crate::work::Work;
+use hs_entries::{EntryReader, InputFault, Item};
 use hs_host::Host;
 use std::alloc::Global;
 
@@ -19,77 +20,90 @@ use std::alloc::Global;
 #[derive(Drop)]
 pub struct Running {
     pub alloc: Global,
-    pub reader: Reader,
+    pub reader: EntryReader,
     pub output: Output,
-    pub database: Database,
-    pub number: u64,
+    pub work: Work,
 }
 
 impl Running {
-    ghost use Rattle.hs_top.specs.Running.{input_of, machine_of, machine_within, IsTooLong, IsSane};
+    ghost use Rattle.hs_top.specs.Running.{machine_of, machine_within, texts_in, OnlyLog, IsTooLong, IsSane, IsLog};
 
     /// Takes a turn: reads the next item and answers it. Answers whether there was one.
     pub fn turn<H: Host>(&mut self, host: &mut H) -> Result<bool, Status>
-        requires { IsSane self.old }
+        requires sane { IsSane self.old }
+        requires opened { IsOpen (H.standing host.old) }
+        requires logged { H.tells → IsHonest (H.standing host.old) → IsLog (H.files host.old) self.old.work.log }
         ensures sane { OnOk result (IsSane self.new) }
         ensures done { H.tells → OnOk result (H.written host.new ++ (self.new.output ++ rest_of (machine_of self.new (H.unread host.new))) ≡ H.written host.old ++ (self.old.output ++ rest_of (machine_of self.old (H.unread host.old)))) }
-        ensures over { H.tells → IfOk result (λ more. more ≡ false → input_of self.new (H.unread host.new) ≡ []) }
+        ensures over { H.tells → IfOk result (λ more. more ≡ false → left_items self.new.reader (H.unread host.new) ≡ []) }
         ensures within { H.tells → IsTooLong self.old (H.unread host.old) → OnOk result (H.written host.new ++ (self.new.output ++ lines_of (machine_within self.new (H.unread host.new))) ≡ H.written host.old ++ (self.old.output ++ lines_of (machine_within self.old (H.unread host.old)))) }
         ensures too_long { H.tells → IsErrOf result Status.InputTooLong → IsTooLong self.old (H.unread host.old) × (H.written host.new ≡ H.written host.old ++ (self.old.output ++ lines_of (machine_within self.old (H.unread host.old)))) }
         ensures front { H.tells → WritesFront (H.written host.old) (H.written host.new) (self.old.output ++ rest_of (machine_of self.old (H.unread host.old))) }
-        ensures count { H.tells → OnOk result (self.new.reader.used + length (input_of self.new (H.unread host.new)) ≡ self.old.reader.used + length (input_of self.old (H.unread host.old))) }
-        ensures used { IfOk result (λ more. more ≡ true → self.old.reader.used < self.new.reader.used) }
-        ensures limit { self.new.reader.limit ≡ self.old.reader.limit }
+        ensures texts { H.tells → IsHonest (H.standing host.old) → OnOk result (texts_in (H.files host.new) ++ texts_of (machine_of self.new (H.unread host.new)) ≡ texts_in (H.files host.old) ++ texts_of (machine_of self.old (H.unread host.old))) }
+        ensures logged { H.tells → IsHonest (H.standing host.old) → OnOk result (IsLog (H.files host.new) self.new.work.log) }
+        ensures others { H.tells → IsHonest (H.standing host.old) → OnlyLog (H.files host.old) (H.files host.new) }
+        ensures count { H.tells → OnOk result (KeepsRoom (left self.old.reader (H.unread host.old)) (left self.new.reader (H.unread host.new))) }
+        ensures end { H.tells → IfOk result (λ more. more ≡ false → ahead self.new.reader ++ H.unread host.new ≡ []) }
+        ensures used { IfOk result (λ more. more ≡ true → room self.new.reader < room self.old.reader) }
         ensures input_fault { IsErrOf result Status.InputFault → Rose (H.input_faults host.old) (H.input_faults host.new) }
         ensures output_fault { IsErrOf result Status.OutputFault → Rose (H.output_faults host.old) (H.output_faults host.new) }
+        ensures disk_fault { IsErrOf result Status.DiskFault → Rose (H.disk_faults host.old) (H.disk_faults host.new) }
         ensures only { IsErrOf result Status.Done ⊎ IsErrOf result Status.Usage → ⊥ }
+        ensures whole { IfErr result (λ status. is_damaged status ≡ false) }
         ensures input_later { H.input_faults host.old ≤ H.input_faults host.new }
         ensures output_later { H.output_faults host.old ≤ H.output_faults host.new }
+        ensures disk_later { H.disk_faults host.old ≤ H.disk_faults host.new }
+        ensures standing { H.standing host.new ≡ H.standing host.old }
     {
-        let next = match next_item(&mut self.reader, &mut self.output, host) {
-            Ok(next) => next,
+        let item = match next_item(&mut self.reader, &mut self.output, host) {
+            Ok(item) => item,
             Err(status) => return Err(status),
         };
-        let Some(item) = next else {
+        if is_end(&item) {
             return Ok(false);
-        };
-        self.number += 1;
-        answer(
-            self.alloc,
-            self.number,
-            &item,
-            &mut self.database,
-            &mut self.output,
-            host,
-        )?;
+        }
+        answer(self.alloc, item, &mut self.work, &mut self.output, host)?;
         Ok(true)
+    }
+}
+
+fn is_end(item: &Item) -> bool
+    ensures { result ≡ is_end item.now }
+{
+    match item {
+        Item::End => true,
+        Item::Entry { .. } => false,
+        Item::Bad { .. } => false,
+        Item::TooLong { .. } => false,
     }
 }
 
 // The next item. What is gathered is handed over before input is asked for.
 fn next_item<H: Host>(
-    reader: &mut Reader,
+    reader: &mut EntryReader,
     output: &mut Output,
     host: &mut H,
-) -> Result<Option<Item>, Status>
-    requires { IsSound reader.old }
-    ensures sound { IsSound reader.new }
-    ensures item { H.tells → IfOk result (λ item. TakesItem (ahead reader.old ++ H.unread host.old) item (ahead reader.new ++ H.unread host.new)) }
-    ensures whole { H.tells → IfOk result (λ item. IfSome item (λ i. RunsOut reader.old (ahead reader.old ++ H.unread host.old) → TakesWhole reader.old (ahead reader.old ++ H.unread host.old) i reader.new (ahead reader.new ++ H.unread host.new))) }
-    ensures none_whole { H.tells → IsErrOf result Status.InputTooLong → HasNoWhole reader.old (ahead reader.old ++ H.unread host.old) }
+) -> Result<Item, Status>
+    requires { kept reader.old ≡ None }
+    ensures sound { OnOk result (kept reader.new ≡ None) }
+    ensures item { H.tells → IfOk result (λ item. TakesFirst (left_items reader.old (H.unread host.old)) item (left_items reader.new (H.unread host.new))) }
+    ensures whole_item { H.tells → IfOk result (λ item. RunsOut (left reader.old (H.unread host.old)) → TakesWhole (left_whole reader.old (H.unread host.old)) item (left_whole reader.new (H.unread host.new))) }
+    ensures count { H.tells → OnOk result (KeepsRoom (left reader.old (H.unread host.old)) (left reader.new (H.unread host.new))) }
+    ensures end { H.tells → IfOk result (λ item. item ≡ Item.End → ahead reader.new ++ H.unread host.new ≡ []) }
+    ensures used { IfOk result (λ item. is_end item ≡ false → room reader.new < room reader.old) }
+    ensures too_long { H.tells → IsErrOf result Status.InputTooLong → IsBeyond (left reader.old (H.unread host.old)) }
     ensures done { H.tells → OnOk result (H.written host.new ++ output.new ≡ H.written host.old ++ output.old) }
     ensures all { H.tells → IsErrOf result Status.InputTooLong → H.written host.new ≡ H.written host.old ++ output.old }
     ensures front { H.tells → WritesFront (H.written host.old) (H.written host.new) output.old }
-    ensures used { IfOk result (λ item. IfSome item (λ _. reader.old.used < reader.new.used)) }
-    ensures kept { OnOk result (reader.old.used ≤ reader.new.used) }
-    ensures count { H.tells → OnOk result (reader.new.used + length (ahead reader.new ++ H.unread host.new) ≡ reader.old.used + length (ahead reader.old ++ H.unread host.old)) }
-    ensures limit { reader.new.limit ≡ reader.old.limit }
     ensures input_fault { IsErrOf result Status.InputFault → Rose (H.input_faults host.old) (H.input_faults host.new) }
     ensures output_fault { IsErrOf result Status.OutputFault → Rose (H.output_faults host.old) (H.output_faults host.new) }
-    ensures too_long { H.tells → IsErrOf result Status.InputTooLong → RunsOut reader.old (ahead reader.old ++ H.unread host.old) }
-    ensures only { IsErrOf result Status.Done ⊎ IsErrOf result Status.Usage → ⊥ }
+    ensures only { IsErrOf result Status.Done ⊎ (IsErrOf result Status.Usage ⊎ IsErrOf result Status.DiskFault) → ⊥ }
+    ensures whole { IfErr result (λ status. is_damaged status ≡ false) }
     ensures input_later { H.input_faults host.old ≤ H.input_faults host.new }
     ensures output_later { H.output_faults host.old ≤ H.output_faults host.new }
+    ensures files { H.files host.new ≡ H.files host.old }
+    ensures standing { H.standing host.new ≡ H.standing host.old }
+    ensures disk_faults { H.disk_faults host.new ≡ H.disk_faults host.old }
 {
     hand_over_unless_ready(reader, output, host)?;
     match read_next(reader, host) {
@@ -106,41 +120,48 @@ fn next_item<H: Host>(
 // Hands over what is gathered, unless the next item is at hand.
 #[tactic(auto, using(crate::proofs::Fronts::nothing_yet))]
 fn hand_over_unless_ready<H: Host>(
-    reader: &Reader,
+    reader: &mut EntryReader,
     output: &mut Output,
     host: &mut H,
 ) -> Result<(), Status>
-    requires { IsSound reader.now }
+    ensures left { (rest : List ℕ) → left reader.new rest ≡ left reader.old rest }
+    ensures ahead { ahead reader.new ≡ ahead reader.old }
+    ensures kept { kept reader.new ≡ kept reader.old }
     ensures done { H.tells → OnOk result (H.written host.new ++ output.new ≡ H.written host.old ++ output.old) }
     ensures front { H.tells → WritesFront (H.written host.old) (H.written host.new) output.old }
     ensures output_fault { IsErrOf result Status.OutputFault → Rose (H.output_faults host.old) (H.output_faults host.new) }
-    ensures only { IsErrOf result Status.Done ⊎ (IsErrOf result Status.Usage ⊎ (IsErrOf result Status.InputFault ⊎ IsErrOf result Status.InputTooLong)) → ⊥ }
-    ensures later { H.output_faults host.old ≤ H.output_faults host.new }
+    ensures only { IsErrOf result Status.Done ⊎ (IsErrOf result Status.Usage ⊎ (IsErrOf result Status.InputFault ⊎ (IsErrOf result Status.DiskFault ⊎ IsErrOf result Status.InputTooLong))) → ⊥ }
+    ensures whole { IfErr result (λ status. is_damaged status ≡ false) }
+    ensures output_later { H.output_faults host.old ≤ H.output_faults host.new }
     ensures unread { H.unread host.new ≡ H.unread host.old }
     ensures input_faults { H.input_faults host.new ≡ H.input_faults host.old }
+    ensures files { H.files host.new ≡ H.files host.old }
+    ensures standing { H.standing host.new ≡ H.standing host.old }
+    ensures disk_faults { H.disk_faults host.new ≡ H.disk_faults host.old }
 {
-    if reader.has_item() {
+    if reader.is_ready() {
         return Ok(());
     }
     hand_over(output, host)
 }
 
-// The next item of the input. The output stays as it was.
-fn read_next<H: Host>(reader: &mut Reader, host: &mut H) -> Result<Option<Item>, InputFault>
-    requires { IsSound reader.old }
-    ensures sound { IsSound reader.new }
-    ensures item { H.tells → IfOk result (λ item. TakesItem (ahead reader.old ++ H.unread host.old) item (ahead reader.new ++ H.unread host.new)) }
-    ensures whole { H.tells → IfOk result (λ item. IfSome item (λ i. RunsOut reader.old (ahead reader.old ++ H.unread host.old) → TakesWhole reader.old (ahead reader.old ++ H.unread host.old) i reader.new (ahead reader.new ++ H.unread host.new))) }
-    ensures none_whole { H.tells → IsErrOf result InputFault.TooLong → HasNoWhole reader.old (ahead reader.old ++ H.unread host.old) }
-    ensures used { IfOk result (λ item. IfSome item (λ _. reader.old.used < reader.new.used)) }
-    ensures kept { OnOk result (reader.old.used ≤ reader.new.used) }
-    ensures count { H.tells → OnOk result (reader.new.used + length (ahead reader.new ++ H.unread host.new) ≡ reader.old.used + length (ahead reader.old ++ H.unread host.old)) }
-    ensures limit { reader.new.limit ≡ reader.old.limit }
+// The next item of the input. Nothing but the input is changed.
+fn read_next<H: Host>(reader: &mut EntryReader, host: &mut H) -> Result<Item, InputFault>
+    requires { kept reader.old ≡ None }
+    ensures sound { OnOk result (kept reader.new ≡ None) }
+    ensures item { H.tells → IfOk result (λ item. TakesFirst (left_items reader.old (H.unread host.old)) item (left_items reader.new (H.unread host.new))) }
+    ensures whole_item { H.tells → IfOk result (λ item. RunsOut (left reader.old (H.unread host.old)) → TakesWhole (left_whole reader.old (H.unread host.old)) item (left_whole reader.new (H.unread host.new))) }
+    ensures count { H.tells → OnOk result (KeepsRoom (left reader.old (H.unread host.old)) (left reader.new (H.unread host.new))) }
+    ensures end { H.tells → IfOk result (λ item. item ≡ Item.End → ahead reader.new ++ H.unread host.new ≡ []) }
+    ensures used { IfOk result (λ item. is_end item ≡ false → room reader.new < room reader.old) }
+    ensures too_long { H.tells → IsErrOf result InputFault.TooLong → IsBeyond (left reader.old (H.unread host.old)) }
     ensures fault { IsErrOf result InputFault.Fault → Rose (H.input_faults host.old) (H.input_faults host.new) }
-    ensures too_long { H.tells → IsErrOf result InputFault.TooLong → RunsOut reader.old (ahead reader.old ++ H.unread host.old) }
     ensures later { H.input_faults host.old ≤ H.input_faults host.new }
     ensures written { H.written host.new ≡ H.written host.old }
     ensures output_faults { H.output_faults host.new ≡ H.output_faults host.old }
+    ensures files { H.files host.new ≡ H.files host.old }
+    ensures standing { H.standing host.new ≡ H.standing host.old }
+    ensures disk_faults { H.disk_faults host.new ≡ H.disk_faults host.old }
 {
     reader.next(host)
 }

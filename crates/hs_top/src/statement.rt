@@ -4,11 +4,11 @@ ghost use Rattle.std.specs.List.{AllPass};
 ghost use Rattle.std.specs.Option.{option_map};
 ghost use Rattle.std.specs.List.{prefix_len};
 ghost use Rattle.std.specs.Str.{IsAscii};
-ghost use Rattle.hs_top.specs.Statement.{after, name_length, name_of, column_of, is_numeral, integer_of, has_minus, without_minus, number_of, value_of, is_end, list_from, create_of, insert_of, select_of, statement_of, read_of};
+ghost use Rattle.hs_top.specs.Statement.{after, name_length, name_of, column_of, has_minus, without_minus, number_of, value_of, list_from, create_of, insert_of, select_of, statement_of};
+ghost use Rattle.hs_top.specs.CommitText.{IsChange};
 ghost use Rattle.hs_top.specs.Statement.{is_digit as digit};
 
 use crate::integer::integer;
-use crate::item::Item;
 use crate::names::Names;
 use hs_values::{Name, Row, Value};
 use std::alloc::{AllocError, Global};
@@ -28,33 +28,24 @@ pub enum Statement {
     Select { table: Name },
 }
 
-/// The statement of an item, or none where it spells none.
-pub fn read_item(alloc: Global, item: &Item) -> Result<Option<Statement>, AllocError>
-    ensures { IfOk result (λ s. s ≡ read_of item.now) }
-{
-    match item {
-        Item::Text(bytes) => read_statement(alloc, bytes.as_slice()),
-        Item::TooLong => Ok(None),
-    }
-}
-
-fn read_statement(alloc: Global, text: &[u8]) -> Result<Option<Statement>, AllocError>
+/// The statement that the text behind the colon of a session spells, or none where it spells none.
+pub fn read_statement(alloc: Global, text: &[u8]) -> Result<Option<Statement>, AllocError>
     ensures { IfOk result (λ s. s ≡ statement_of text.now) }
 {
-    if let Some(rest) = after(text, b"a: CREATE TABLE ") {
-        return read_create(alloc, rest);
+    if let Some(rest) = after(text, b" CREATE TABLE ") {
+        return read_create(alloc, rest, b" (", b", ", b");");
     }
-    if let Some(rest) = after(text, b"a: INSERT INTO ") {
-        return read_insert(alloc, rest);
+    if let Some(rest) = after(text, b" INSERT INTO ") {
+        return read_insert(alloc, rest, b" VALUES (", b");");
     }
-    match after(text, b"a: SELECT * FROM ") {
+    match after(text, b" SELECT * FROM ") {
         Some(rest) => read_select(alloc, rest),
         None => Ok(None),
     }
 }
 
-// What stands behind a prefix.
-fn after<'a>(text: &'a [u8], prefix: &[u8]) -> Option<&'a [u8]>
+/// What stands behind a prefix.
+pub fn after<'a>(text: &'a [u8], prefix: &[u8]) -> Option<&'a [u8]>
     ensures { option_map (λ s. s.now) result ≡ after prefix.now text.now }
 {
     if text.starts_with(prefix) {
@@ -64,16 +55,25 @@ fn after<'a>(text: &'a [u8], prefix: &[u8]) -> Option<&'a [u8]>
     }
 }
 
-fn read_create(alloc: Global, text: &[u8]) -> Result<Option<Statement>, AllocError>
-    ensures { IfOk result (λ s. s ≡ create_of text.now) }
+/// A table and its columns, up to the end of the text: `opening` stands behind the table's name, `between`
+/// between two columns and `ending` at the end.
+pub fn read_create(
+    alloc: Global,
+    text: &[u8],
+    opening: &[u8],
+    between: &[u8],
+    ending: &[u8],
+) -> Result<Option<Statement>, AllocError>
+    ensures read { IfOk result (λ s. s ≡ create_of opening.now between.now ending.now text.now) }
+    ensures change { IfOk result (λ s. IfSome s IsChange) }
 {
     let Some((table, rest)) = split_name(text) else {
         return Ok(None);
     };
-    let Some(rest) = after(rest, b" (") else {
+    let Some(rest) = after(rest, opening) else {
         return Ok(None);
     };
-    match read_columns(alloc, rest)? {
+    match read_columns(alloc, rest, between, ending)? {
         Some(columns) => Ok(Some(Statement::Create {
             table: make_name(alloc, table)?,
             columns,
@@ -82,16 +82,24 @@ fn read_create(alloc: Global, text: &[u8]) -> Result<Option<Statement>, AllocErr
     }
 }
 
-fn read_insert(alloc: Global, text: &[u8]) -> Result<Option<Statement>, AllocError>
-    ensures { IfOk result (λ s. s ≡ insert_of text.now) }
+/// A table and the values of a row, up to the end of the text: `opening` stands behind the table's name and
+/// `ending` at the end.
+pub fn read_insert(
+    alloc: Global,
+    text: &[u8],
+    opening: &[u8],
+    ending: &[u8],
+) -> Result<Option<Statement>, AllocError>
+    ensures read { IfOk result (λ s. s ≡ insert_of opening.now ending.now text.now) }
+    ensures change { IfOk result (λ s. IfSome s IsChange) }
 {
     let Some((table, rest)) = split_name(text) else {
         return Ok(None);
     };
-    let Some(rest) = after(rest, b" VALUES (") else {
+    let Some(rest) = after(rest, opening) else {
         return Ok(None);
     };
-    match read_row(alloc, rest)? {
+    match read_row(alloc, rest, ending)? {
         Some(row) => Ok(Some(Statement::Insert {
             table: make_name(alloc, table)?,
             row,
@@ -106,7 +114,7 @@ fn read_select(alloc: Global, text: &[u8]) -> Result<Option<Statement>, AllocErr
     let Some((table, rest)) = split_name(text) else {
         return Ok(None);
     };
-    if rest.starts_with(b";") && rest.len() == 1 {
+    if rest == b";".as_slice() {
         Ok(Some(Statement::Select {
             table: make_name(alloc, table)?,
         }))
@@ -117,8 +125,13 @@ fn read_select(alloc: Global, text: &[u8]) -> Result<Option<Statement>, AllocErr
 
 // The columns of a table, up to the end of the text.
 #[tactic(auto, using(crate::proofs::Lists::list_next, crate::proofs::Lists::list_full))]
-fn read_columns(alloc: Global, text: &[u8]) -> Result<Option<Names>, AllocError>
-    ensures { IfOk result (λ c. c ≡ list_from column_of (codes ", ") [] MOST_COLUMNS text.now) }
+fn read_columns(
+    alloc: Global,
+    text: &[u8],
+    between: &[u8],
+    ending: &[u8],
+) -> Result<Option<Names>, AllocError>
+    ensures { IfOk result (λ c. c ≡ list_from column_of between.now ending.now [] MOST_COLUMNS text.now) }
 {
     let mut columns = Names::new(alloc);
     let mut rest = text;
@@ -128,10 +141,10 @@ fn read_columns(alloc: Global, text: &[u8]) -> Result<Option<Names>, AllocError>
             return Ok(None);
         };
         columns.push(make_name(alloc, column)?)?;
-        if is_end(behind) {
+        if behind == ending {
             return Ok(Some(columns));
         }
-        let Some(more) = after(behind, b", ") else {
+        let Some(more) = after(behind, between) else {
             return Ok(None);
         };
         rest = more;
@@ -142,8 +155,8 @@ fn read_columns(alloc: Global, text: &[u8]) -> Result<Option<Names>, AllocError>
 
 // The values of a row, up to the end of the text.
 #[tactic(auto, using(crate::proofs::Lists::list_next, crate::proofs::Lists::list_full))]
-fn read_row(alloc: Global, text: &[u8]) -> Result<Option<Row>, AllocError>
-    ensures { IfOk result (λ r. r ≡ list_from value_of (codes ",") [] (length text.now) text.now) }
+fn read_row(alloc: Global, text: &[u8], ending: &[u8]) -> Result<Option<Row>, AllocError>
+    ensures { IfOk result (λ r. r ≡ list_from value_of (codes ",") ending.now [] (length text.now) text.now) }
 {
     let commas = text.iter().filter(|b| **b == b',').count();
     let mut row = Vec::with_capacity(alloc, commas + 1)?;
@@ -154,7 +167,7 @@ fn read_row(alloc: Global, text: &[u8]) -> Result<Option<Row>, AllocError>
             return Ok(None);
         };
         row.push(value)?;
-        if is_end(behind) {
+        if behind == ending {
             return Ok(Some(Row::from_vec(row)));
         }
         let Some(more) = after(behind, b",") else {
@@ -166,20 +179,14 @@ fn read_row(alloc: Global, text: &[u8]) -> Result<Option<Row>, AllocError>
     Ok(None)
 }
 
-fn is_end(text: &[u8]) -> bool
-    ensures { result ≡ is_end text.now }
-{
-    text.starts_with(b");") && text.len() == 2
-}
-
 fn is_digit(byte: u8) -> bool
     ensures { result ≡ digit byte }
 {
     48 <= byte && byte <= 57
 }
 
-// How many digits stand at the front.
-fn digits_len(text: &[u8]) -> usize
+/// How many digits stand at the front.
+pub fn digits_len(text: &[u8]) -> usize
     ensures count { result ≡ prefix_len digit text.now }
     ensures within { result ≤ length text.now }
     ensures digits { AllPass digit (take result text.now) }

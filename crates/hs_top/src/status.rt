@@ -1,19 +1,26 @@
 // How a run ends.
+use crate::damage::Damage;
+use hs_gate::GateFault;
 use std::alloc::{AllocError, AllocFailed};
 
 /// How a run ends. Each status but `Done` and `NoMemory` has one cause.
-#[derive(Clone, Copy, Debug, PartialEq, Eq)]
+#[derive(Debug, PartialEq, Eq, Drop)]
 pub enum Status {
     /// The input was read to its end, and the whole transcript was written.
     Done,
-    /// The words of the command line are not those of the command. Nothing was read or written.
+    /// The words of the command line are not those of the command. Nothing was read or written, and no file
+    /// opened.
     Usage,
     /// A read of the input failed.
     InputFault,
     /// A write of the output failed, or took nothing.
     OutputFault,
+    /// A call on the files of the database failed.
+    DiskFault,
     /// Memory was refused. No rule says when.
     NoMemory,
+    /// The files stand for no database. Nothing was read or written, and no file changed.
+    Damaged(Damage),
     /// The next item, or the end of the input, was needed and isn't within the first 2^30 bytes of the
     /// input, which has more.
     InputTooLong,
@@ -24,15 +31,17 @@ impl Status {
     ghost use Rattle.hs_top.specs.Status.{number_of};
 
     /// The number that the program ends with.
-    pub fn number(self) -> u8
-        ensures { result ≡ number_of self }
+    pub fn number(&self) -> u8
+        ensures { result ≡ number_of self.now }
     {
         match self {
             Status::Done => 0,
             Status::Usage => 1,
             Status::InputFault => 2,
             Status::OutputFault => 3,
+            Status::DiskFault => 4,
             Status::NoMemory => 5,
+            Status::Damaged(_) => 6,
             Status::InputTooLong => 7,
         }
     }
@@ -57,5 +66,20 @@ impl<T: Drop> From<AllocFailed<T>> for Status {
 
     fn from(_: AllocFailed<T>) -> Self {
         Status::NoMemory
+    }
+}
+
+impl From<GateFault> for Status {
+    ghost use Rattle.std.specs.Prelude.{◌≡◌};
+    ghost use Rattle.hs_top.specs.Status.{status_of};
+
+    ghost from_gives = { λ f status. status ≡ status_of f };
+
+    fn from(fault: GateFault) -> Self {
+        match fault {
+            GateFault::Disk => Status::DiskFault,
+            GateFault::Broken(group) => Status::Damaged(Damage::Log(group)),
+            GateFault::NoMemory => Status::NoMemory,
+        }
     }
 }

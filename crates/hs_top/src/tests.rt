@@ -1,13 +1,13 @@
 // What no clause says: that the definitions are those of the program's users, and that a run succeeds.
-use crate::input_fault::InputFault;
-use crate::item::Item;
-use crate::reader::Reader;
+ghost use Rattle.std.specs.Prelude.{◌≡◌};
+
 use crate::run;
 use crate::status::Status;
-use hs_host::{Host, HostFault, Source};
-use hs_memhost::{CallList, MemHost, NeverFails};
-use hs_values::{Bytes, Chars, Words};
-use std::alloc::{AllocError, Global};
+use crate::tests_support::{host, shown, words};
+use hs_host::{FileKind, Host, HostFault, MountFault, Source};
+use hs_memhost::{Images, MemHost, NeverFails};
+use hs_values::Bytes;
+use std::alloc::Global;
 use std::test::Fail;
 
 // One case a line: an input, `~`, and the output with `/` for the end of a line. The first line and the
@@ -15,86 +15,61 @@ use std::test::Fail;
 const CASES: &str = "\
 ~closed at 0
    ~closed at 0
-;~1 -: refused not built/closed at 0
-;;~1 -: refused not built/2 -: refused not built/closed at 0
-a: COMMIT;~1 -: refused not built/closed at 0
+;~1 -: refused entry/closed at 0
+;;~1 -: refused entry/2 -: refused entry/closed at 0
+a: COMMIT;~1 a: refused not built/closed at 0
 a: SELECT * FROM T;~1 a: refused no such T/closed at 0
    a: SELECT * FROM T;  ~1 a: refused no such T/closed at 0
-a: SELECT * FROM T~1 -: refused not built/closed at 0
-a: SELECT * FROM T;a~1 a: refused no such T/2 -: refused not built/closed at 0
-b: SELECT * FROM T;~1 -: refused not built/closed at 0
-a:SELECT * FROM T;~1 -: refused not built/closed at 0
-a: SELECT  * FROM T;~1 -: refused not built/closed at 0
-a: select * from T;~1 -: refused not built/closed at 0
-a: SELECT * FROM t;~1 -: refused not built/closed at 0
-a: SELECT * FROM TT;~1 -: refused not built/closed at 0
-a: SELECT * FROM 1T;~1 -: refused not built/closed at 0
-a: SELECT * FROM T ;~1 -: refused not built/closed at 0
-a: SELECT N FROM T;~1 -: refused not built/closed at 0
+a: SELECT * FROM T~1 -: refused entry/closed at 0
+a: SELECT * FROM T;a~1 a: refused no such T/2 -: refused entry/closed at 0
+b: SELECT * FROM T;~1 b: refused no such T/closed at 0
+a:SELECT * FROM T;~1 a: refused not built/closed at 0
+a: SELECT  * FROM T;~1 a: refused not built/closed at 0
+a: select * from T;~1 a: refused not built/closed at 0
+a: SELECT * FROM t;~1 a: refused not built/closed at 0
+a: SELECT * FROM TT;~1 a: refused not built/closed at 0
+a: SELECT * FROM 1T;~1 a: refused not built/closed at 0
+a: SELECT * FROM T ;~1 a: refused not built/closed at 0
+a: SELECT N FROM T;~1 a: refused not built/closed at 0
 a: SELECT * FROM T1234567;~1 a: refused no such T1234567/closed at 0
-a: SELECT * FROM T12345678;~1 -: refused not built/closed at 0
+a: SELECT * FROM T12345678;~1 a: refused not built/closed at 0
 a: CREATE TABLE T (N BIGINT);~1 a: ok committed 1/closed at 1
-a: CREATE TABLE T ();~1 -: refused not built/closed at 0
-a: CREATE TABLE T (N BIGINT,M BIGINT);~1 -: refused not built/closed at 0
-a: CREATE TABLE T (N BIGINT, );~1 -: refused not built/closed at 0
-a: CREATE TABLE T(N BIGINT);~1 -: refused not built/closed at 0
-a: CREATE TABLE T (N BIGINT) ;~1 -: refused not built/closed at 0
-a: CREATE TABLE T (N INTEGER);~1 -: refused not built/closed at 0
+a: CREATE TABLE T ();~1 a: refused not built/closed at 0
+a: CREATE TABLE T (N BIGINT,M BIGINT);~1 a: refused not built/closed at 0
+a: CREATE TABLE T (N BIGINT, );~1 a: refused not built/closed at 0
+a: CREATE TABLE T(N BIGINT);~1 a: refused not built/closed at 0
+a: CREATE TABLE T (N BIGINT) ;~1 a: refused not built/closed at 0
+a: CREATE TABLE T (N INTEGER);~1 a: refused not built/closed at 0
 a: CREATE TABLE T (N BIGINT, N BIGINT);~1 a: refused exists N/closed at 0
 a: CREATE TABLE T (N BIGINT, M BIGINT, M BIGINT, N BIGINT);~1 a: refused exists M/closed at 0
 a: CREATE TABLE T (N BIGINT);a: CREATE TABLE T (N BIGINT, N BIGINT);~1 a: ok committed 1/2 a: refused exists T/closed at 1
 a: INSERT INTO T VALUES (1);~1 a: refused no such T/closed at 0
 a: INSERT INTO T VALUES (1,2,3);~1 a: refused no such T/closed at 0
-a: CREATE TABLE T (N BIGINT);a: INSERT INTO T VALUES (1,2);~1 a: ok committed 1/2 -: refused not built/closed at 1
-a: CREATE TABLE T (N BIGINT);a: INSERT INTO T VALUES ();~1 a: ok committed 1/2 -: refused not built/closed at 1
-a: CREATE TABLE T (N BIGINT);a: INSERT INTO T VALUES (1),(2);~1 a: ok committed 1/2 -: refused not built/closed at 1
-a: INSERT INTO T VALUES (-0);a: INSERT INTO T VALUES (00);a: INSERT INTO T VALUES (01);~1 -: refused not built/2 -: refused not built/3 -: refused not built/closed at 0
-a: INSERT INTO T VALUES (-01);a: INSERT INTO T VALUES (+1);a: INSERT INTO T VALUES (--1);~1 -: refused not built/2 -: refused not built/3 -: refused not built/closed at 0
-a: INSERT INTO T VALUES (-);a: INSERT INTO T VALUES (1,);a: INSERT INTO T VALUES (,1);~1 -: refused not built/2 -: refused not built/3 -: refused not built/closed at 0
-a: INSERT INTO T VALUES ( 1);a: INSERT INTO T VALUES (1 );a: INSERT INTO T VALUES (1, 2);~1 -: refused not built/2 -: refused not built/3 -: refused not built/closed at 0
-a: INSERT INTO T VALUES (1.0);a: INSERT INTO T VALUES (1);;~1 -: refused not built/2 a: refused no such T/3 -: refused not built/closed at 0
-a: INSERT INTO T VALUES (9223372036854775807);a: INSERT INTO T VALUES (9223372036854775808);~1 a: refused no such T/2 -: refused not built/closed at 0
-a: INSERT INTO T VALUES (-9223372036854775808);a: INSERT INTO T VALUES (-9223372036854775809);~1 a: refused no such T/2 -: refused not built/closed at 0
-a: INSERT INTO T VALUES (99999999999999999999999999);a: INSERT INTO T VALUES (0);~1 -: refused not built/2 a: refused no such T/closed at 0
+a: CREATE TABLE T (N BIGINT);a: INSERT INTO T VALUES (1,2);~1 a: ok committed 1/2 a: refused not built/closed at 1
+a: CREATE TABLE T (N BIGINT);a: INSERT INTO T VALUES ();~1 a: ok committed 1/2 a: refused not built/closed at 1
+a: CREATE TABLE T (N BIGINT);a: INSERT INTO T VALUES (1),(2);~1 a: ok committed 1/2 a: refused not built/closed at 1
+a: INSERT INTO T VALUES (-0);a: INSERT INTO T VALUES (00);a: INSERT INTO T VALUES (01);~1 a: refused not built/2 a: refused not built/3 a: refused not built/closed at 0
+a: INSERT INTO T VALUES (-01);a: INSERT INTO T VALUES (+1);a: INSERT INTO T VALUES (--1);~1 a: refused not built/2 a: refused not built/3 -: refused entry/closed at 0
+a: INSERT INTO T VALUES (-);a: INSERT INTO T VALUES (1,);a: INSERT INTO T VALUES (,1);~1 a: refused not built/2 a: refused not built/3 a: refused not built/closed at 0
+a: INSERT INTO T VALUES ( 1);a: INSERT INTO T VALUES (1 );a: INSERT INTO T VALUES (1, 2);~1 a: refused not built/2 a: refused not built/3 a: refused not built/closed at 0
+a: INSERT INTO T VALUES (1.0);a: INSERT INTO T VALUES (1);;~1 a: refused not built/2 a: refused no such T/3 -: refused entry/closed at 0
+a: INSERT INTO T VALUES (9223372036854775807);a: INSERT INTO T VALUES (9223372036854775808);~1 a: refused no such T/2 a: refused not built/closed at 0
+a: INSERT INTO T VALUES (-9223372036854775808);a: INSERT INTO T VALUES (-9223372036854775809);~1 a: refused no such T/2 a: refused not built/closed at 0
+a: INSERT INTO T VALUES (99999999999999999999999999);a: INSERT INTO T VALUES (0);~1 a: refused not built/2 a: refused no such T/closed at 0
 a: CREATE TABLE T (N BIGINT);a: SELECT * FROM T;~1 a: ok committed 1/2 a: ok 0 rows/closed at 1
 a: CREATE TABLE T (N BIGINT);a: INSERT INTO T VALUES (-9223372036854775808);a: SELECT * FROM T;~1 a: ok committed 1/2 a: ok 1 row committed 2/3 a: row -9223372036854775808/3 a: ok 1 row/closed at 2
 a: CREATE TABLE T (N BIGINT);a: INSERT INTO T VALUES (3);a: INSERT INTO T VALUES (-10);a: INSERT INTO T VALUES (-1);a: INSERT INTO T VALUES (3);a: SELECT * FROM T;~1 a: ok committed 1/2 a: ok 1 row committed 2/3 a: ok 1 row committed 3/4 a: ok 1 row committed 4/5 a: ok 1 row committed 5/6 a: row -10/6 a: row -1/6 a: row 3/6 a: row 3/6 a: ok 4 rows/closed at 5
 a: CREATE TABLE T (N BIGINT, M BIGINT);a: INSERT INTO T VALUES (1,2);a: INSERT INTO T VALUES (0,9);a: INSERT INTO T VALUES (1,-2);a: SELECT * FROM T;~1 a: ok committed 1/2 a: ok 1 row committed 2/3 a: ok 1 row committed 3/4 a: ok 1 row committed 4/5 a: row 0,9/5 a: row 1,-2/5 a: row 1,2/5 a: ok 3 rows/closed at 4
-a: CREATE TABLE T (N BIGINT, M BIGINT);a: INSERT INTO T VALUES (2,5);a: INSERT INTO T VALUES (1,-7);a: SELECT * FROM T;a: SELECT * FROM U;a: CREATE TABLE T (N BIGINT);a: COMMIT;~1 a: ok committed 1/2 a: ok 1 row committed 2/3 a: ok 1 row committed 3/4 a: row 1,-7/4 a: row 2,5/4 a: ok 2 rows/5 a: refused no such U/6 a: refused exists T/7 -: refused not built/closed at 3
+a: CREATE TABLE T (N BIGINT, M BIGINT);a: INSERT INTO T VALUES (2,5);a: INSERT INTO T VALUES (1,-7);a: SELECT * FROM T;a: SELECT * FROM U;a: CREATE TABLE T (N BIGINT);a: COMMIT;~1 a: ok committed 1/2 a: ok 1 row committed 2/3 a: ok 1 row committed 3/4 a: row 1,-7/4 a: row 2,5/4 a: ok 2 rows/5 a: refused no such U/6 a: refused exists T/7 a: refused not built/closed at 3
+b: SELECT * FROM T;a: SELECT * FROM T;B_2: SELECT * FROM T;~1 b: refused no such T/2 a: refused no such T/3 B_2: refused no such T/closed at 0
+a: CREATE TABLE T (N BIGINT);b: INSERT INTO T VALUES (1);a: SELECT * FROM T;~1 a: ok committed 1/2 b: ok 1 row committed 2/3 a: row 1/3 a: ok 1 row/closed at 2
+-- a; b: SELECT * FROM T;~closed at 0
+/* one; */ a: SELECT * FROM T; /* never closed; ~1 a: refused no such T/2 -: refused entry/closed at 0
+a: SELECT ';' FROM T;a: SELECT * FROM T;~1 a: refused not built/2 a: refused no such T/closed at 0
+a: SELECT * FROM T /* x */;9a: SELECT * FROM T;a : SELECT * FROM T;~1 a: refused not built/2 -: refused entry/3 -: refused entry/closed at 0
+a: 'never closed; a: SELECT * FROM T;~1 -: refused entry/closed at 0
+;9a: COMMIT;a: ;a: SELECT X FROM NOPE;a: COMMIT~1 -: refused entry/2 -: refused entry/3 a: refused not built/4 a: refused not built/5 -: refused entry/closed at 0
 ";
-
-fn words(alloc: Global, texts: &[&str]) -> Result<Words, AllocError> {
-    let mut words = Words::new(alloc);
-    for text in texts {
-        words.push(Chars::from_text(alloc, text)?)?;
-    }
-    Ok(words)
-}
-
-fn host(alloc: Global, input: &[u8], failing: &[u64]) -> Result<MemHost, AllocError> {
-    let input = Bytes::from_vec(input.to_vec(alloc)?);
-    let failing = CallList::from_vec(failing.to_vec(alloc)?);
-    Ok(MemHost::new(alloc, input, failing))
-}
-
-// The output of a run over these bytes, given in pieces of so many, with `/` for the end of a line.
-fn shown(alloc: Global, input: &[u8], piece: usize) -> Result<Option<Vec<u8>>, AllocError> {
-    let words = words(alloc, &["hsql", "demo"])?;
-    let mut host = host(alloc, input, &[])?;
-    let mut lengths = Vec::new(alloc);
-    lengths.push(piece)?;
-    host.give_in_pieces(lengths);
-    if run(alloc, &words, &mut host) != Status::Done {
-        return Ok(None);
-    }
-    let mut text = host.output().to_vec(alloc)?;
-    for byte in &mut text {
-        if *byte == b'\n' {
-            *byte = b'/';
-        }
-    }
-    Ok(Some(text))
-}
 
 #[test]
 fn odd_inputs(rt: HostRuntime) -> Result<(), Fail> {
@@ -106,54 +81,56 @@ fn odd_inputs(rt: HostRuntime) -> Result<(), Fail> {
         };
         let wanted = format!(in alloc; "opened at 0/{lines}/")?;
         for piece in [1, 7, 100_000] {
-            let text = shown(alloc, input.as_bytes(), piece)?.ok_or("not done")?;
-            assert_eq!(rt; text.as_slice(), wanted.as_bytes(), "at {input}");
+            let run = shown(alloc, input.as_bytes(), piece, b"", &[])?;
+            assert_eq!(rt; run.status, Status::Done);
+            assert_eq!(rt; run.text.as_slice(), wanted.as_bytes(), "at {input}");
         }
         count = count.saturating_add(1);
     }
-    assert_eq!(rt; count, 48);
+    assert_eq!(rt; count, 56);
     Ok(())
 }
 
 #[test]
 fn odd_bytes(rt: HostRuntime) -> Result<(), Fail> {
     let alloc = rt.alloc();
-    let not_built = "opened at 0/1 -: refused not built/closed at 0/";
+    let not_built = "opened at 0/1 a: refused not built/closed at 0/";
+    let bad = "opened at 0/1 -: refused entry/closed at 0/";
     let no_table = "opened at 0/1 a: refused no such T/closed at 0/";
     let cases: [(&[u8], &str); 8] = [
         (b"a: SELECT * FROM \0;", not_built),
-        (b"a: SELECT * FROM \xff;", not_built),
-        (b"\xef\xbb\xbfa: SELECT * FROM T;", not_built),
-        (b"\x0ba: SELECT * FROM T;", not_built),
+        (b"a: SELECT * FROM \xff;", bad),
+        (b"\xef\xbb\xbfa: SELECT * FROM T;", bad),
+        (b"\x0ba: SELECT * FROM T;", bad),
         (b"a: SELECT\n* FROM T;", not_built),
         (b"\t\n\x0c\r a: SELECT * FROM T;\n", no_table),
-        (b"\xc3\xa4", not_built),
-        (b"\0", not_built),
+        (b"\xc3\xa4", bad),
+        (b"\0", bad),
     ];
     for (input, wanted) in cases {
         for piece in [1, 100_000] {
-            let text = shown(alloc, input, piece)?.ok_or("not done")?;
-            assert_eq!(rt; text.as_slice(), wanted.as_bytes());
+            let run = shown(alloc, input, piece, b"", &[])?;
+            assert_eq!(rt; run.text.as_slice(), wanted.as_bytes());
         }
     }
     Ok(())
 }
 
-// The limits on columns, tables and bytes, each met and passed by one.
+// The limits on columns, tables, bytes and sessions, each met and passed by one.
 #[test]
 fn limits(rt: HostRuntime) -> Result<(), Fail> {
     let alloc = rt.alloc();
     for (columns, wanted) in [
         (64u32, "opened at 0/1 a: ok committed 1/closed at 1/"),
-        (65, "opened at 0/1 -: refused not built/closed at 0/"),
+        (65, "opened at 0/1 a: refused not built/closed at 0/"),
     ] {
         let mut input = String::from_str(alloc, "a: CREATE TABLE T (A0 BIGINT")?;
         for column in 1..columns {
             input.push_str(format!(in alloc; ", A{column} BIGINT")?.as_str())?;
         }
         input.push_str(");")?;
-        let text = shown(alloc, input.as_bytes(), 100_000)?.ok_or("not done")?;
-        assert_eq!(rt; text.as_slice(), wanted.as_bytes());
+        let run = shown(alloc, input.as_bytes(), 100_000, b"", &[])?;
+        assert_eq!(rt; run.text.as_slice(), wanted.as_bytes());
     }
 
     let mut input = String::new(alloc);
@@ -163,41 +140,27 @@ fn limits(rt: HostRuntime) -> Result<(), Fail> {
         wanted.push_str(format!(in alloc; "{table} a: ok committed {table}/")?.as_str())?;
     }
     input.push_str("a: CREATE TABLE U (N BIGINT);a: CREATE TABLE T1 (N BIGINT);")?;
-    wanted.push_str("1025 -: refused not built/1026 a: refused exists T1/closed at 1024/")?;
-    let text = shown(alloc, input.as_bytes(), 100_000)?.ok_or("not done")?;
-    assert_eq!(rt; text.as_slice(), wanted.as_bytes());
+    wanted.push_str("1025 a: refused not built/1026 a: refused exists T1/closed at 1024/")?;
+    let run = shown(alloc, input.as_bytes(), 100_000, b"", &[])?;
+    assert_eq!(rt; run.text.as_slice(), wanted.as_bytes());
 
     let mut long = vec![in alloc; b'x'; 65_536]?;
     long.push(b';')?;
     long.extend_from_slice(b"a: SELECT * FROM T;")?;
-    let text = shown(alloc, &long, 100_000)?.ok_or("not done")?;
-    let wanted = "opened at 0/1 -: refused not built/2 a: refused no such T/closed at 0/";
-    assert_eq!(rt; text.as_slice(), wanted.as_bytes());
-    Ok(())
-}
+    let run = shown(alloc, &long, 100_000, b"", &[])?;
+    let wanted = "opened at 0/1 -: refused too long/2 a: refused no such T/closed at 0/";
+    assert_eq!(rt; run.text.as_slice(), wanted.as_bytes());
 
-// Each call of the host fails in turn: the status is that call's, and a front of the output is written.
-#[test]
-fn failing_calls(rt: HostRuntime) -> Result<(), Fail> {
-    let alloc = rt.alloc();
-    let words = words(alloc, &["hsql", "demo"])?;
-    let input = b"a: CREATE TABLE T (N BIGINT);a: SELECT * FROM T;";
-    let mut whole = host(alloc, input, &[])?;
-    assert_eq!(rt; run(alloc, &words, &mut whole), Status::Done);
-    assert_eq!(rt; whole.calls(), 5);
-    for call in 0..5 {
-        let mut host = host(alloc, input, &[call])?;
-        let wanted = if call % 2 == 0 {
-            Status::OutputFault
-        } else {
-            Status::InputFault
-        };
-        assert_eq!(rt; run(alloc, &words, &mut host), wanted, "at call {call}");
-        assert!(rt; whole.output().starts_with(host.output()), "at call {call}");
+    let mut input = String::new(alloc);
+    let mut wanted = String::from_str(alloc, "opened at 0/")?;
+    for session in 1..65u32 {
+        input.push_str(format!(in alloc; "s{session}: X;")?.as_str())?;
+        wanted.push_str(format!(in alloc; "{session} s{session}: refused not built/")?.as_str())?;
     }
-    let mut never = NeverFails::new(alloc, Bytes::from_vec(input.to_vec(alloc)?));
-    assert_eq!(rt; run(alloc, &words, &mut never), Status::Done);
-    assert_eq!(rt; never.output(), whole.output());
+    input.push_str("t: X;s64: X;")?;
+    wanted.push_str("65 t: refused sessions/66 s64: refused not built/closed at 0/")?;
+    let run = shown(alloc, input.as_bytes(), 100_000, b"", &[])?;
+    assert_eq!(rt; run.text.as_slice(), wanted.as_bytes());
     Ok(())
 }
 
@@ -215,102 +178,159 @@ fn command_lines(rt: HostRuntime) -> Result<(), Fail> {
     ];
     for (texts, wanted) in cases {
         let words = words(alloc, texts)?;
-        let mut host = host(alloc, b"", &[])?;
+        let mut host = host(alloc, b"", b"", &[])?;
         assert_eq!(rt; run(alloc, &words, &mut host), wanted);
     }
+    let mut never = NeverFails::new(alloc, Bytes::new(alloc), Images::new(alloc));
+    assert_eq!(rt;
+        run(alloc, &words(alloc, &["hsql", "db"])?, &mut never),
+        Status::Done
+    );
+    assert_eq!(rt; never.output(), b"opened at 0\nclosed at 0\n".as_slice());
     Ok(())
 }
 
-// At the limit an item that ends there is read, and one more byte is too much.
-#[test]
-fn the_limit(rt: HostRuntime) -> Result<(), Fail> {
-    let alloc = rt.alloc();
-    for (input, then) in [
-        ("abcdefg;", true),
-        ("abcdefg;x", false),
-        ("abcdefg; ", false),
-    ] {
-        let mut host = host(alloc, input.as_bytes(), &[])?;
-        let mut reader = Reader::new(alloc, 8)?;
-        let first = reader.next(&mut host);
-        let Ok(Some(Item::Text(bytes))) = first else {
-            return Err(Fail::from("no item"));
-        };
-        assert_eq!(rt; bytes.as_slice(), b"abcdefg;".as_slice());
-        match reader.next(&mut host) {
-            Ok(None) => assert!(rt; then),
-            Err(InputFault::TooLong) => assert!(rt; !then),
-            _ => return Err(Fail::from("another end")),
-        }
-    }
-    Ok(())
-}
-
-// A host that gives one entry a read, and notes how much was written before each read.
+// A host that notes its calls, and how much was written before each read.
 #[derive(Drop)]
 struct Noting {
-    given: usize,
-    output: Vec<u8>,
+    inner: MemHost,
+    calls: Vec<u8>,
     before_reads: Vec<usize>,
 }
 
-impl Source for Noting {
-    ghost tells = { ⊥ };
+impl Noting {
+    ghost use Rattle.std.specs.Prelude.{◌≡◌, OnErr, Err};
 
-    ghost unread = { λ h. [] };
-
-    ghost input_faults = { λ h. 0 };
-
-    ghost only_input = { λ a b. Unit {0} };
-
-    ghost nothing_read = { λ h. tt };
-
-    ghost read_on = { λ a b c ab bc. tt };
-
-    fn read_input(&mut self, buf: &mut [u8]) -> Result<usize, HostFault> {
-        if self.before_reads.push(self.output.len()).is_err() {
-            return Err(HostFault::NoMemory);
+    fn new(alloc: Global, inner: MemHost) -> Noting
+        ensures { result.inner ≡ inner }
+    {
+        Noting {
+            inner,
+            calls: Vec::new(alloc),
+            before_reads: Vec::new(alloc),
         }
-        self.given = self.given.saturating_add(1);
-        let entry = b"a: SELECT * FROM T;";
-        if self.given > 3 || buf.len() < entry.len() {
-            return Ok(0);
-        }
-        buf[..entry.len()].copy_from_slice(entry);
-        Ok(entry.len())
     }
-}
 
-ghost use Rattle.std.specs.Prelude.{[], refl};
-
-impl Host for Noting {
-    ghost written = { λ h. [] };
-
-    ghost output_faults = { λ h. 0 };
-
-    ghost reading_keeps_output = { λ a b read. (refl, refl) };
-
-    fn write_output(&mut self, bytes: &[u8]) -> Result<usize, HostFault> {
-        match self.output.extend_from_slice(bytes) {
-            Ok(()) => Ok(bytes.len()),
+    fn note(&mut self, call: u8) -> Result<(), HostFault>
+        ensures inner { self.new.inner ≡ self.old.inner }
+        ensures err { OnErr result (result ≡ Err HostFault.NoMemory) }
+    {
+        match self.calls.push(call) {
+            Ok(()) => Ok(()),
             Err(_) => Err(HostFault::NoMemory),
         }
     }
 }
 
+impl Source for Noting {
+    ghost use Rattle.std.specs.Prelude.{◌≡◌, refl};
+    ghost use Rattle.std.proofs.Common.{◌∙◌};
+    ghost use Rattle.hs_memhost.specs.Memory.{kept_of};
+
+    ghost tells = { ⟦<MemHost as Source>⟧.tells };
+
+    ghost unread = { λ h. ⟦<MemHost as Source>⟧.unread h.inner };
+
+    ghost input_faults = { λ h. ⟦<MemHost as Source>⟧.input_faults h.inner };
+
+    ghost only_input = { λ a b. kept_of b.inner ≡ kept_of a.inner };
+
+    ghost nothing_read = { λ h. refl };
+
+    ghost read_on = { λ a b c ab bc. bc ∙ ab };
+
+    fn read_input(&mut self, buf: &mut [u8]) -> Result<usize, HostFault> {
+        self.note(b'i')?;
+        let written = self.inner.output().len();
+        if self.before_reads.push(written).is_err() {
+            return Err(HostFault::NoMemory);
+        }
+        self.inner.read_input(buf)
+    }
+}
+
+impl Host for Noting {
+    ghost use Rattle.std.proofs.Common.{ap};
+
+    ghost written = { λ h. ⟦<MemHost as Host>⟧.written h.inner };
+
+    ghost output_faults = { λ h. ⟦<MemHost as Host>⟧.output_faults h.inner };
+
+    ghost files = { λ h. ⟦<MemHost as Host>⟧.files h.inner };
+
+    ghost standing = { λ h. ⟦<MemHost as Host>⟧.standing h.inner };
+
+    ghost disk_faults = { λ h. ⟦<MemHost as Host>⟧.disk_faults h.inner };
+
+    ghost reading_keeps_output = { λ a b read. (ap (λ k. k.output) read, ap (λ k. k.output_faults) read) };
+
+    ghost reading_keeps_files = { λ a b read. (ap (λ k. k.files) read, ap (λ k. k.standing) read, ap (λ k. k.disk_faults) read) };
+
+    fn write_output(&mut self, bytes: &[u8]) -> Result<usize, HostFault> {
+        self.note(b'o')?;
+        self.inner.write_output(bytes)
+    }
+
+    fn mount(&mut self, name: &str) -> Result<(), MountFault> {
+        if self.note(b'm').is_err() {
+            return Err(MountFault::NoMemory);
+        }
+        self.inner.mount(name)
+    }
+
+    fn len(&mut self, file: FileKind) -> Result<u64, HostFault> {
+        self.note(b'l')?;
+        self.inner.len(file)
+    }
+
+    fn read(&mut self, file: FileKind, at: u64, buf: &mut [u8]) -> Result<(), HostFault> {
+        self.note(b'r')?;
+        self.inner.read(file, at, buf)
+    }
+
+    fn write(&mut self, file: FileKind, at: u64, bytes: &[u8]) -> Result<(), HostFault> {
+        self.note(b'w')?;
+        self.inner.write(file, at, bytes)
+    }
+
+    fn cut(&mut self, file: FileKind, len: u64) -> Result<(), HostFault> {
+        self.note(b'c')?;
+        self.inner.cut(file, len)
+    }
+
+    fn sync(&mut self, file: FileKind) -> Result<(), HostFault> {
+        self.note(b's')?;
+        self.inner.sync(file)
+    }
+}
+
+// Each entry is one read, and its reply is written before the next.
 #[test]
 fn replies_come_before_more_input(rt: HostRuntime) -> Result<(), Fail> {
     let alloc = rt.alloc();
     let words = words(alloc, &["hsql", "demo"])?;
-    let mut host = Noting {
-        given: 0,
-        output: Vec::new(alloc),
-        before_reads: Vec::new(alloc),
-    };
+    let entry = b"a: SELECT * FROM T;";
+    let mut inner = host(alloc, &[*entry, *entry, *entry].concat(alloc)?, b"", &[])?;
+    inner.give_in_pieces([entry.len()].to_vec(alloc)?);
+    let mut host = Noting::new(alloc, inner);
     assert_eq!(rt; run(alloc, &words, &mut host), Status::Done);
     let opened = b"opened at 0\n".len();
     let line = b"1 a: refused no such T\n".len();
     let wanted = [opened, opened + line, opened + 2 * line, opened + 3 * line];
     assert_eq!(rt; host.before_reads.as_slice(), wanted.as_slice());
+    Ok(())
+}
+
+// The order of the calls: the log is made, and of each commit length, payload and a closed gate are
+// written and synced, and then its gate; and only then its reply is written.
+#[test]
+fn commits_are_on_the_disk_before_they_are_told(rt: HostRuntime) -> Result<(), Fail> {
+    let alloc = rt.alloc();
+    let words = words(alloc, &["hsql", "demo"])?;
+    let input = b"a: CREATE TABLE T (N BIGINT);a: INSERT INTO T VALUES (1);a: SELECT * FROM T;";
+    let mut host = Noting::new(alloc, host(alloc, input, b"", &[])?);
+    assert_eq!(rt; run(alloc, &words, &mut host), Status::Done);
+    let wanted = b"mlwcswsoiwwwswswwwswsoio";
+    assert_eq!(rt; host.calls.as_slice(), wanted.as_slice());
     Ok(())
 }

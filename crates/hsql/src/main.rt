@@ -1,10 +1,8 @@
-//! The program `hsql`: the engine over standard input and standard output.
+//! The program `hsql`: the engine over standard input, standard output and the files of a database.
 #![tactic(auto)]
 
-mod streams;
-
-use crate::streams::Streams;
-use hs_top::{Status, run};
+use hs_realhost::FileHost;
+use hs_top::{Damage, Status, run};
 use hs_values::{Chars, Words};
 use std::alloc::Global;
 use std::process::ExitCode;
@@ -20,28 +18,29 @@ fn words<R: Env + Alloc>(rt: &R, alloc: Global) -> io::Result<Words> {
     Ok(words)
 }
 
-// What standard error says of a status.
-fn message(status: Status) -> &'static str {
+// Says on standard error how a run ended that wasn't done.
+fn say(rt: &HostRuntime, status: &Status) -> io::Result<()> {
     match status {
-        Status::Done => "done",
-        Status::Usage => "usage",
-        Status::InputFault => "input fault",
-        Status::OutputFault => "output fault",
-        Status::NoMemory => "out of memory",
-        Status::InputTooLong => "input too long",
+        Status::Done => Ok(()),
+        Status::Usage => eprintln!(rt; "hsql: usage"),
+        Status::InputFault => eprintln!(rt; "hsql: input fault"),
+        Status::OutputFault => eprintln!(rt; "hsql: output fault"),
+        Status::DiskFault => eprintln!(rt; "hsql: disk fault"),
+        Status::NoMemory => eprintln!(rt; "hsql: out of memory"),
+        Status::Damaged(Damage::Foreign) => eprintln!(rt; "hsql: damaged foreign"),
+        Status::Damaged(Damage::Log(group)) => eprintln!(rt; "hsql: damaged log {group}"),
+        Status::InputTooLong => eprintln!(rt; "hsql: input too long"),
     }
 }
 
 fn main(rt: HostRuntime) -> ExitCode {
-    let mut host = Streams::new(rt.reader(), io::writer(&rt));
-    let status = match words(&rt, rt.alloc()) {
-        Ok(words) => run(rt.alloc(), &words, &mut host),
+    let alloc = rt.alloc();
+    let mut host = FileHost::new(alloc, &rt, rt.reader(), io::writer(&rt));
+    let status = match words(&rt, alloc) {
+        Ok(words) => run(alloc, &words, &mut host),
         Err(error) if error.kind() == io::ErrorKind::OutOfMemory => Status::NoMemory,
         Err(_) => Status::Usage,
     };
-    if status != Status::Done {
-        let said = message(status);
-        let _ = eprintln!(rt; "hsql: {said}");
-    }
+    let _ = say(&rt, &status);
     ExitCode::from(status.number())
 }

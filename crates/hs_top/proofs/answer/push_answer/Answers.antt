@@ -1,4 +1,4 @@
-use Rattle.std.proofs.Common.{◌≡◌, ◌++◌, List, ℕ, map, codes, Some, None, ap, subst, ◌∙◌}
+use Rattle.std.proofs.Common.{◌≡◌, ◌++◌, List, ℕ, map, Some, None, ap, subst, ◌∙◌}
 use Rattle.hs_values.specs.declared.value.Value.{Value}
 use Rattle.hs_values.specs.Sorted.{sorted_rows}
 use Rattle.hs_top.specs.declared.reply.Reply.TheVariants.{Done}
@@ -13,9 +13,9 @@ in_order : (g : _) (c : After-push_rows g) → map (λ r. r.now) c.as_slice.resu
 in_order g c = ap (map (λ r. r.now)) c.as_slice.ensures.value ∙ c.in_ok-rows.ensures
 
 front_of_rows : (g : _) (c : After-push_rows g) → g.H.Source.tells
-    → WritesFront (g.H.Host.written c.args.host.now) (g.H.Host.written c.push_rows.new.host) (c.args.output.now ++ answer_lines c.args.number c.args.table.now)
+    → WritesFront (g.H.Host.written c.args.host.now) (g.H.Host.written c.push_rows.new.host) (c.args.output.now ++ answer_lines c.args.number c.args.session.now c.args.table.now)
 front_of_rows g c told =
-    let Q : List (List Value) → Type 0 = λ rows. WritesFront (g.H.Host.written c.args.host.now) (g.H.Host.written c.push_rows.new.host) (c.args.output.now ++ rows_lines c.args.number (codes "a") rows) in
+    let Q : List (List Value) → Type 0 = λ rows. WritesFront (g.H.Host.written c.args.host.now) (g.H.Host.written c.push_rows.new.host) (c.args.output.now ++ rows_lines c.args.number c.args.session.now rows) in
     front_more _ _ c.args.output.now _ _ (subst Q (in_order g c) (c.push_rows.ensures.front told))
 
 pub returns-in_err-rows-clause-front : goal.returns-in_err-rows-clause-front
@@ -32,6 +32,6 @@ returns-clause-front g c = front_of_rows g (goal.at.returns-clause-front g c).Af
 
 pub returns-clause-done : goal.returns-clause-done
 returns-clause-done g c = λ told.
-    let rows = ap (λ (rows : List (List Value)). g.H.Host.written c.args.host.now ++ (c.args.output.now ++ rows_lines c.args.number (codes "a") rows)) (in_order g (goal.at.returns-clause-done g c).After-push_rows) in
-    let reply = ap (λ (n : ℕ). c.push_rows.new.output ++ reply_line c.args.number (Done (Some n) None)) c.len.ensures in
-    extended (g.H.Host.written c.push_rows.new.host) c.push_rows.new.output c.push_reply.new.self (g.H.Host.written c.args.host.now) c.args.output.now (rows_lines c.args.number (codes "a") (sorted_rows c.args.table.now.rows)) _ (c.in_ok-push_rows.ensures.done told ∙ rows) (c.in_ok-push_reply.ensures ∙ reply)
+    let rows = ap (λ (rows : List (List Value)). g.H.Host.written c.args.host.now ++ (c.args.output.now ++ rows_lines c.args.number c.args.session.now rows)) (in_order g (goal.at.returns-clause-done g c).After-push_rows) in
+    let reply = ap (λ (n : ℕ). c.push_rows.new.output ++ reply_line c.args.number c.args.session.now (Done (Some n) None)) c.len.ensures in
+    extended (g.H.Host.written c.push_rows.new.host) c.push_rows.new.output c.push_reply.new.self (g.H.Host.written c.args.host.now) c.args.output.now (rows_lines c.args.number c.args.session.now (sorted_rows c.args.table.now.rows)) _ (c.in_ok-push_rows.ensures.done told ∙ rows) (c.in_ok-push_reply.ensures ∙ reply)

@@ -8,10 +8,10 @@ use Rattle.hs_top.proofs.answer.push_rows.Goals.{After-hand_over_much}
 
 -- with this row's line gathered
 left : (g : _) (c : After-hand_over_much g) → g.H.Source.tells
-    → g.H.Host.written c.loop-row.host ++ (c.push_row.new.self ++ rows_lines c.args.number (codes "a") (map (λ r. r.now) (drop (c.loop-row.row-index + 1) c.args.rows.now)))
-    ≡ g.H.Host.written c.args.host.now ++ (c.args.output.now ++ rows_lines c.args.number (codes "a") (map (λ r. r.now) c.args.rows.now))
-left g c told = gathered (g.H.Host.written c.loop-row.host) c.loop-row.output c.push_row.new.self _ _ _ _ (c.loop-row.invariant.so_far told) (c.in_ok-push_row.ensures ∙ ap (λ (r : List Value). c.loop-row.output ++ line c.args.number (codes "a") (codes "row " ++ row_text r)) c.as_slice.ensures)
-    (rows_next (λ r. r.now) c.args.rows.now c.loop-row.row-index c.row-item.result c.args.number (codes "a") c.loop-row-test.true c.row-item.is)
+    → g.H.Host.written c.loop-row.host ++ (c.push_row.new.self ++ rows_lines c.args.number c.args.session.now (map (λ r. r.now) (drop (c.loop-row.row-index + 1) c.args.rows.now)))
+    ≡ g.H.Host.written c.args.host.now ++ (c.args.output.now ++ rows_lines c.args.number c.args.session.now (map (λ r. r.now) c.args.rows.now))
+left g c told = gathered (g.H.Host.written c.loop-row.host) c.loop-row.output c.push_row.new.self _ _ _ _ (c.loop-row.invariant.so_far told) (c.in_ok-push_row.ensures ∙ ap (λ (r : List Value). c.loop-row.output ++ line c.args.number c.args.session.now (codes "row " ++ row_text r)) c.as_slice.ensures)
+    (rows_next (λ r. r.now) c.args.rows.now c.loop-row.row-index c.row-item.result c.args.number c.args.session.now c.loop-row-test.true c.row-item.is)
 
 pub returns-in_err-hand_over_much-clause-front : goal.returns-in_err-hand_over_much-clause-front
 returns-in_err-hand_over_much-clause-front g c = λ told.
@@ -21,7 +21,10 @@ pub loop-row-preserved : goal.loop-row-preserved
 loop-row-preserved g c = record {
   so_far = λ told. handed (g.H.Host.written c.loop-row.host) c.push_row.new.self (g.H.Host.written c.hand_over_much.new.host) c.hand_over_much.new.output _ _ (c.in_ok-hand_over_much.ensures.done told) (left g (goal.at.loop-row-preserved g c).After-hand_over_much told);
   grown = λ told. omega (arith, c.loop-row.invariant.grown told, (c.hand_over_much.ensures.front told).grown);
-  later = omega (arith, c.hand_over_much.ensures.later, c.loop-row.invariant.later);
+  later = omega (arith, c.hand_over_much.ensures.output_later, c.loop-row.invariant.later);
   unread = c.hand_over_much.ensures.unread ∙ c.loop-row.invariant.unread;
   faults = c.hand_over_much.ensures.input_faults ∙ c.loop-row.invariant.faults;
+  files = c.hand_over_much.ensures.files ∙ c.loop-row.invariant.files;
+  standing = c.hand_over_much.ensures.standing ∙ c.loop-row.invariant.standing;
+  disk_faults = c.hand_over_much.ensures.disk_faults ∙ c.loop-row.invariant.disk_faults;
 }

@@ -10,6 +10,9 @@ invariant-loop-rest g l =
       later : g.H.Host.output_faults l.fn.host ≤ g.H.Host.output_faults l.host;
       unread : g.H.Source.unread l.host ≡ g.H.Source.unread l.fn.host;
       faults : g.H.Source.input_faults l.host ≡ g.H.Source.input_faults l.fn.host;
+      files : g.H.Host.files l.host ≡ g.H.Host.files l.fn.host;
+      standing : g.H.Host.standing l.host ≡ g.H.Host.standing l.fn.host;
+      disk_faults : g.H.Host.disk_faults l.host ≡ g.H.Host.disk_faults l.fn.host;
     }
 
 abbrev pub decreases-loop-rest : goal.decreases-loop-rest

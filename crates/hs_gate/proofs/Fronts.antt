@@ -1,0 +1,279 @@
+-- A gated file whose bytes before a place stay as they were.
+use Rattle.std.proofs.Common.{◌≡◌, ℕ, ◌+◌, ◌*◌, ◌<◌, ◌≤◌, ◌^◌, ◌==◌, ◌&&◌, nat_le, Bool, true, false, List, [], ◌∷◌, ◌++◌, length, take, drop, get_or, slice_index, Some, refl, sym, ◌∙◌, ap, arith, zero-add, append_assoc, length-append, length-take, length-drop}
+use Rattle.std.proofs.lemmas.List.{append-nil, get_or-take, drop-take, drop_at, length_push, take-take}
+use Rattle.std.proofs.lemmas.Bool.{leb-true, le-leb}
+use Rattle.hs_host.specs.declared.file_kind.FileKind.{FileKind}
+use Rattle.hs_host.specs.Files.{Five, of, with_, overwrite}
+use Rattle.hs_gate.specs.declared.gated.Gated.{Gated}
+use Rattle.hs_gate.specs.declared.gated.Front.{Front}
+use Rattle.hs_gate.specs.declared.scan.Ending.{Ending}
+use Rattle.hs_gate.specs.declared.found.Found.TheVariants.{Closed}
+use Rattle.hs_gate.specs.Groups.{Groups, whole, ahead, is_open, epoch_of, eight_bytes, group, end_of, groups_at, groups_of, and_group, is_whole, size_of, number_of}
+use Rattle.hs_gate.specs.Scan.{found_in, ending}
+use Rattle.hs_gate.specs.Gated.{IsFront, IsGated, IsAtRest, gated_of, reading_of, grown, appended, empty, created}
+use Rattle.hs_gate.proofs.Numbers.{number_same, length-spelled, length-spelled_append, length-group, few_groups, length-eight, number_of_eight}
+use Rattle.hs_gate.proofs.Pieces.{piece_same, take_same, take-overwrite, drop-overwrite, length-overwrite}
+use Rattle.hs_gate.proofs.Steps.{groups-drop, closed_first, closed_there, chose_closed}
+use Rattle.hs_gate.proofs.Carried.{walk, carry, prepend}
+use Rattle.hs_gate.proofs.Spelling.{group_read}
+use Rattle.hs_gate.proofs.Writes.{of_written, changed_twice, write_before}
+
+both_true : (a b : Bool) → (a && b) ≡ true → (a ≡ true) × (b ≡ true)
+both_true true b e = (refl, e)
+both_true false b e = cc
+
+pub open_long : (bytes : List ℕ) → is_open bytes ≡ true → 10 < length bytes
+open_long bytes opened = let p = both_true (nat_le 11 (length bytes)) (slice_index bytes 1 == 1) opened in let le : 11 ≤ length bytes = leb-true 11 (length bytes) p.0 in omega (arith, le)
+
+pub open_same : (new old : List ℕ) → is_open old ≡ true → take 10 new ≡ take 10 old → 10 < length new → is_open new ≡ true
+open_same new old opened same long =
+    let p = both_true (nat_le 11 (length old)) (slice_index old 1 == 1) opened in
+    let second : slice_index new 1 ≡ slice_index old 1 = sym (get_or-take 10 new 1 0 (omega arith)) ∙ ap (λ (l : List ℕ). get_or l 1 0) same ∙ get_or-take 10 old 1 0 (omega arith) in
+    let longer : nat_le 11 (length new) ≡ true = le-leb 11 (length new) (omega (arith, long)) in
+    rw (longer, second) p.1
+
+pub epoch_same : (new old : List ℕ) → take 10 new ≡ take 10 old → epoch_of new ≡ epoch_of old
+epoch_same new old same = number_same (drop 2 new) (drop 2 old) (piece_same 2 8 10 new old same (omega arith))
+
+-- where its groups end, a file has one more byte
+pub front_within : (bytes : List ℕ) → is_open bytes ≡ true → end_of (groups_of bytes).payloads < length bytes
+front_within bytes opened =
+    let payloads = (groups_of bytes).payloads in
+    (walk payloads [] 10 (end_of payloads) bytes (sym (append-nil payloads)) (open_long bytes opened) refl).within
+
+pub end_within : (files : Five (List ℕ)) (gated : Gated) → IsFront files gated → gated.end < length (of files gated.file)
+end_within files gated front =
+    let end : gated.end ≡ end_of (groups_of (of files gated.file)).payloads = ap (λ (g : Gated). g.end) front.is in
+    let within = front_within (of files gated.file) front.opened in
+    omega (arith, end, within)
+
+pub end_of_least : (payloads : List (List ℕ)) → length payloads * 9 + 10 ≤ end_of payloads
+end_of_least payloads = omega (arith, few_groups payloads)
+
+abbrev pub made : FileKind → ℕ → ℕ → ℕ → Gated
+made file epoch groups end = record { file = file; epoch = epoch; groups = groups; end = end }
+
+abbrev with_broken : List (List ℕ) → Bool → Groups
+with_broken payloads is_broken = record { payloads = payloads; is_broken = is_broken }
+
+abbrev pub front_with : Gated → Bool → Front
+front_with gated is_broken = record { gated = gated; is_broken = is_broken }
+
+closed_alone : (tail : List ℕ) → found_in tail ≡ Closed → found_in (take 1 tail) ≡ Closed
+closed_alone [] e = cc
+closed_alone (gate ∷ behind) e = rw (chose_closed (gate == 1) (is_whole behind) (size_of behind) e) refl
+
+pub same_gated : (f h : FileKind) (e e' n n' p p' : ℕ) → f ≡ h → e ≡ e' → n ≡ n' → p ≡ p' → made f e n p ≡ made h e' n' p'
+same_gated f h e e' n n' p p' fh ee nn pp = cc
+
+-- one more group in the bytes
+pub append_groups : (bytes payload : List ℕ) → is_open bytes ≡ true → (groups_of bytes).is_broken ≡ false → length payload < 2 ^ 64
+    → groups_of (appended bytes (end_of (groups_of bytes).payloads) payload) ≡ and_group payload (groups_of bytes)
+append_groups bytes payload opened closed small =
+    let payloads = (groups_of bytes).payloads in
+    let end = end_of payloads in
+    let within : end < length bytes = front_within bytes opened in
+    let body = group payload ++ 0 ∷ [] in
+    let new = appended bytes end payload in
+    let more = 0 ∷ drop (end + length body) bytes in
+    let long : end < length new = omega (arith, length-overwrite bytes end body (omega (arith, within)), length-append (group payload) (0 ∷ [])) in
+    let tail : drop end new ≡ group payload ++ more = drop-overwrite bytes end body (omega (arith, within)) ∙ append_assoc (group payload) (0 ∷ []) (drop (end + length body) bytes) in
+    let last : groups_at end new ≡ whole (payload ∷ []) =
+    groups-drop end new
+    ∙ ap (λ (l : List ℕ). groups_at 0 l) tail
+    ∙ group_read payload more small (omega arith)
+    ∙ ap (λ (g : Groups). ahead payload g) (closed_first more refl) in
+    carry payloads 10 end new bytes refl refl (take-overwrite bytes end body (omega (arith, within))) long
+    ∙ ap (λ (g : Groups). prepend payloads g) last
+    ∙ ap (λ (b : Bool). with_broken (payloads ++ payload ∷ []) b) (sym closed)
+
+-- and so in the file
+pub append_gated : (old new : Five (List ℕ)) (gated : Gated) (payload : List ℕ) → IsGated old gated → length payload < 2 ^ 64
+    → of new gated.file ≡ appended (of old gated.file) gated.end payload
+    → (groups_of (of new gated.file) ≡ and_group payload (groups_of (of old gated.file))) × IsGated new (grown gated (length payload))
+append_gated old new gated payload stands small is =
+    let bytes = of old gated.file in
+    let payloads = (groups_of bytes).payloads in
+    let end = end_of payloads in
+    let body = group payload ++ 0 ∷ [] in
+    let end_is : gated.end ≡ end = ap (λ (g : Gated). g.end) stands.front.is in
+    let epoch_is : gated.epoch ≡ epoch_of bytes = ap (λ (g : Gated). g.epoch) stands.front.is in
+    let count_is : gated.groups ≡ length payloads = ap (λ (g : Gated). g.groups) stands.front.is in
+    let new_is : of new gated.file ≡ appended bytes end payload = is ∙ ap (λ (n : ℕ). appended bytes n payload) end_is in
+    let within : end < length bytes = front_within bytes stands.front.opened in
+    let groups : groups_of (of new gated.file) ≡ and_group payload (groups_of bytes) = ap groups_of new_is ∙ append_groups bytes payload stands.front.opened stands.whole small in
+    let now : (groups_of (of new gated.file)).payloads ≡ payloads ++ payload ∷ [] = ap (λ (g : Groups). g.payloads) groups in
+    let front : take 10 (of new gated.file) ≡ take 10 bytes =
+    take_same 10 end (of new gated.file) bytes (ap (λ (l : List ℕ). take end l) new_is ∙ take-overwrite bytes end body (omega (arith, within))) (omega arith) in
+    let long : 10 < length (of new gated.file) = omega (arith, ap length new_is, length-overwrite bytes end body (omega (arith, within)), length-append (group payload) (0 ∷ [])) in
+    let last : end_of (payloads ++ payload ∷ []) ≡ gated.end + (9 + length payload) =
+    omega (arith, length-spelled_append payloads (payload ∷ []), length-spelled payload [], end_is) in
+    let count : length (payloads ++ payload ∷ []) ≡ gated.groups + 1 = length_push payloads payload ∙ ap (λ (n : ℕ). n + 1) (sym count_is) in (
+      groups,
+      record {
+        front = record {
+          opened = open_same (of new gated.file) bytes stands.front.opened front long;
+          is = same_gated gated.file gated.file _ _ _ _ _ _ refl (epoch_is ∙ sym (epoch_same (of new gated.file) bytes front)) (sym count ∙ ap (λ (l : List (List ℕ)). length l) (sym now)) (sym last ∙ ap end_of (sym now));
+        };
+        whole = ap (λ (g : Groups). g.is_broken) groups ∙ stands.whole;
+      },
+    )
+
+-- a file that ended with its closed gate ends with the new one
+pub append_at_rest : (old new : Five (List ℕ)) (gated : Gated) (payload : List ℕ) → IsAtRest old gated → length payload < 2 ^ 64
+    → of new gated.file ≡ appended (of old gated.file) gated.end payload → IsAtRest new (grown gated (length payload))
+append_at_rest old new gated payload rest small is = record {
+  stands = (append_gated old new gated payload rest.stands small is).1;
+  last =
+      let bytes = of old gated.file in
+      let body = group payload ++ 0 ∷ [] in
+      let size : length body ≡ 10 + length payload = omega (arith, length-append (group payload) (0 ∷ []), length-group payload) in
+      let front : length (take gated.end bytes) ≡ gated.end = omega (arith, length-take gated.end bytes, rest.last) in
+      let none : length (drop (gated.end + length body) bytes) ≡ 0 = omega (arith, length-drop (gated.end + length body) bytes, rest.last, size) in
+      omega (arith, ap length is, length-append (take gated.end bytes ++ body) (drop (gated.end + length body) bytes), length-append (take gated.end bytes) body, size, front, none);
+}
+
+-- what stands behind the gate may be cut off
+pub cut_groups : (bytes : List ℕ) → is_open bytes ≡ true → (groups_of bytes).is_broken ≡ false → groups_of (take (end_of (groups_of bytes).payloads + 1) bytes) ≡ groups_of bytes
+cut_groups bytes opened closed =
+    let payloads = (groups_of bytes).payloads in
+    let end = end_of payloads in
+    let new = take (end + 1) bytes in
+    let within : end < length bytes = front_within bytes opened in
+    let long : end < length new = omega (arith, length-take (end + 1) bytes, within) in
+    let on = walk payloads [] 10 end bytes (sym (append-nil payloads)) (open_long bytes opened) refl in
+    let there : found_in (drop end bytes) ≡ Closed = closed_there end bytes on.rest (on.same ∙ closed) in
+    let tail : drop end new ≡ take 1 (drop end bytes) = drop-take end 1 bytes in
+    let last : groups_at end new ≡ whole [] = groups-drop end new ∙ ap (λ (l : List ℕ). groups_at 0 l) tail ∙ closed_first (take 1 (drop end bytes)) (closed_alone (drop end bytes) there) in
+    carry payloads 10 end new bytes refl refl (take-take end (end + 1) bytes (omega arith)) long
+    ∙ ap (λ (g : Groups). prepend payloads g) last
+    ∙ ap (λ (b : Bool). with_broken (payloads ++ []) b) (sym closed)
+    ∙ ap (λ (l : List (List ℕ)). with_broken l (groups_of bytes).is_broken) (append-nil payloads)
+
+pub cut_gated : (old new : Five (List ℕ)) (gated : Gated) → IsGated old gated → of new gated.file ≡ take (gated.end + 1) (of old gated.file)
+    → (groups_of (of new gated.file) ≡ groups_of (of old gated.file)) × IsAtRest new gated
+cut_gated old new gated stands is =
+    let bytes = of old gated.file in
+    let payloads = (groups_of bytes).payloads in
+    let end = end_of payloads in
+    let end_is : gated.end ≡ end = ap (λ (g : Gated). g.end) stands.front.is in
+    let new_is : of new gated.file ≡ take (end + 1) bytes = is ∙ ap (λ (n : ℕ). take (n + 1) bytes) end_is in
+    let within : end < length bytes = front_within bytes stands.front.opened in
+    let groups : groups_of (of new gated.file) ≡ groups_of bytes = ap groups_of new_is ∙ cut_groups bytes stands.front.opened stands.whole in
+    let size : length (of new gated.file) ≡ end + 1 = omega (arith, ap length new_is, length-take (end + 1) bytes, within) in
+    let front : take 10 (of new gated.file) ≡ take 10 bytes = ap (λ (l : List ℕ). take 10 l) new_is ∙ take-take 10 (end + 1) bytes (omega arith) in
+    let long : 10 < length (of new gated.file) = omega (arith, size) in
+    let same : gated_of gated.file (of new gated.file) (groups_of (of new gated.file)).payloads ≡ gated_of gated.file bytes payloads =
+    ap (λ (g : Groups). gated_of gated.file (of new gated.file) g.payloads) groups ∙ ap (λ (n : ℕ). made gated.file n (length payloads) end) (epoch_same (of new gated.file) bytes front) in (
+      groups,
+      record {
+        stands = record {
+          front = record { opened = open_same (of new gated.file) bytes stands.front.opened front long; is = stands.front.is ∙ sym same };
+          whole = ap (λ (g : Groups). g.is_broken) groups ∙ stands.whole;
+        };
+        last = omega (arith, size, end_is);
+      },
+    )
+
+-- what the two writes of a group make of the bytes
+pub append_bytes : (old mid new : Five (List ℕ)) (gated : Gated) (payload : List ℕ) → IsGated old gated
+    → mid ≡ with_ old gated.file (overwrite (of old gated.file) (gated.end + 1) (eight_bytes (length payload) ++ payload ++ 0 ∷ []))
+    → new ≡ with_ mid gated.file (overwrite (of mid gated.file) gated.end (1 ∷ []))
+    → of new gated.file ≡ appended (of old gated.file) gated.end payload
+append_bytes old mid new gated payload stands first second =
+    of_written old new gated.file (appended (of old gated.file) gated.end payload)
+    (write_before old mid new gated.file gated.end 1 (eight_bytes (length payload) ++ payload ++ 0 ∷ []) (end_within old gated stands.front) first second)
+
+pub append_before : (old new : Five (List ℕ)) (gated : Gated) (payload : List ℕ) → IsGated old gated → of new gated.file ≡ appended (of old gated.file) gated.end payload
+    → take gated.end (of new gated.file) ≡ take gated.end (of old gated.file)
+append_before old new gated payload stands is =
+    let within = end_within old gated stands.front in
+    ap (λ (l : List ℕ). take gated.end l) is ∙ take-overwrite (of old gated.file) gated.end (group payload ++ 0 ∷ []) (omega (arith, within))
+
+pub payload_long : (old mid : Five (List ℕ)) (file : FileKind) (at : ℕ) (bytes : List ℕ) → at < length (of old file) → mid ≡ with_ old file (overwrite (of old file) (at + 1) bytes) → at ≤ length (of mid file)
+payload_long old mid file at bytes lt is =
+    let now = of_written old mid file (overwrite (of old file) (at + 1) bytes) is in
+    omega (arith, ap length now, length-overwrite (of old file) (at + 1) bytes (omega (arith, lt)))
+
+-- what a cut leaves
+pub cut_bytes : (old mid new : Five (List ℕ)) (file : FileKind) (end count : ℕ) → mid ≡ old → count ≡ end + 1 → new ≡ with_ mid file (take count (of mid file)) → of new file ≡ take (end + 1) (of old file)
+cut_bytes old mid new file end count same count_is is =
+    of_written mid new file (take count (of mid file)) is
+    ∙ ap (λ (n : ℕ). take n (of mid file)) count_is
+    ∙ ap (λ (f : Five (List ℕ)). take (end + 1) (of f file)) same
+
+-- a file that has just begun
+fresh_bytes : (birth epoch : ℕ) → epoch < 2 ^ 64 → (is_open (birth ∷ 1 ∷ eight_bytes epoch ++ 0 ∷ []) ≡ true) × (epoch_of (birth ∷ 1 ∷ eight_bytes epoch ++ 0 ∷ []) ≡ epoch)
+    × (groups_of (birth ∷ 1 ∷ eight_bytes epoch ++ 0 ∷ []) ≡ whole []) × (length (birth ∷ 1 ∷ eight_bytes epoch ++ 0 ∷ []) ≡ 11)
+fresh_bytes birth epoch small =
+    let bytes = birth ∷ 1 ∷ eight_bytes epoch ++ 0 ∷ [] in
+    let size : length bytes ≡ 11 = omega (arith, length-append (eight_bytes epoch) (0 ∷ []), length-eight epoch) in
+    let tail : drop 10 bytes ≡ 0 ∷ [] = drop_at (eight_bytes epoch) (0 ∷ []) 8 (length-eight epoch) in (
+      rw size refl,
+      number_of_eight epoch (0 ∷ []) small,
+      groups-drop 10 bytes ∙ ap (λ (l : List ℕ). groups_at 0 l) tail ∙ closed_first (0 ∷ []) refl,
+      size,
+    )
+
+pub fresh : (files : Five (List ℕ)) (file : FileKind) (birth epoch : ℕ) → epoch < 2 ^ 64 → of files file ≡ birth ∷ 1 ∷ eight_bytes epoch ++ 0 ∷ [] → IsAtRest files (empty file epoch)
+fresh files file birth epoch small is =
+    let f = fresh_bytes birth epoch small in
+    let groups : groups_of (of files file) ≡ whole [] = ap groups_of is ∙ f.2 in
+    let payloads : (groups_of (of files file)).payloads ≡ [] = ap (λ (g : Groups). g.payloads) groups in
+    record {
+      stands = record {
+        front = record {
+          opened = ap is_open is ∙ f.0;
+          is = same_gated file file _ _ _ _ _ _ refl (sym (ap epoch_of is ∙ f.1)) (sym (ap (λ (l : List (List ℕ)). length l) payloads)) (sym (ap end_of payloads));
+        };
+        whole = ap (λ (g : Groups). g.is_broken) groups;
+      };
+      last = ap length is ∙ f.3;
+    }
+
+start_bytes : (bytes header : List ℕ) → 2 ≤ length bytes → overwrite (take 2 bytes ++ header) 1 (1 ∷ []) ≡ get_or bytes 0 0 ∷ 1 ∷ header
+start_bytes [] header long = absurd (omega (arith, long))
+start_bytes (b ∷ []) header long = absurd (omega (arith, long))
+start_bytes (b ∷ c ∷ bytes) header long = refl
+
+-- the file that a start leaves
+pub started_fresh : (old mid new : Five (List ℕ)) (file : FileKind) (header : List ℕ) (epoch : ℕ) → epoch < 2 ^ 64 → 2 ≤ length (of old file) → header ≡ eight_bytes epoch ++ 0 ∷ []
+    → mid ≡ with_ old file (take 2 (of old file) ++ header) → new ≡ with_ mid file (overwrite (of mid file) 1 (1 ∷ [])) → IsAtRest new (empty file epoch)
+started_fresh old mid new file header epoch small long header_is mid_is new_is =
+    fresh new file (get_or (of old file) 0 0) epoch small
+    (of_written mid new file (overwrite (of mid file) 1 (1 ∷ [])) new_is
+    ∙ ap (λ (l : List ℕ). overwrite l 1 (1 ∷ [])) (of_written old mid file (take 2 (of old file) ++ header) mid_is)
+    ∙ start_bytes (of old file) header long
+    ∙ ap (λ (l : List ℕ). get_or (of old file) 0 0 ∷ 1 ∷ l) header_is)
+
+-- the file that a creation leaves
+pub created_is : (old mid new : Five (List ℕ)) (file : FileKind) → mid ≡ with_ old file (take 0 (of old file) ++ (0 ∷ 1 ∷ 0 ∷ 0 ∷ 0 ∷ 0 ∷ 0 ∷ 0 ∷ 0 ∷ 1 ∷ 0 ∷ []))
+    → new ≡ with_ mid file (overwrite (of mid file) 0 (1 ∷ [])) → new ≡ with_ old file created
+unfolding eight_bytes
+created_is old mid new file first second =
+    let unborn = 0 ∷ 1 ∷ 0 ∷ 0 ∷ 0 ∷ 0 ∷ 0 ∷ 0 ∷ 0 ∷ 1 ∷ 0 ∷ [] in
+    changed_twice old mid new file unborn (overwrite (of mid file) 0 (1 ∷ [])) first second
+    ∙ ap (λ (l : List ℕ). with_ old file (overwrite l 0 (1 ∷ []))) (of_written old mid file unborn first)
+
+pub created_fresh : (old new : Five (List ℕ)) (file : FileKind) → new ≡ with_ old file created → IsAtRest new (empty file 1)
+created_fresh old new file is = fresh new file 1 1 (omega arith) (of_written old new file created is)
+
+take_ten : (header bytes : List ℕ) → header ≡ take (length header) bytes → 10 ≤ length header → take 10 header ≡ take 10 bytes
+take_ten header bytes front long = ap (λ (l : List ℕ). take 10 l) front ∙ take-take 10 (length header) bytes long
+
+-- what is made of a header and of the place where the groups end
+pub front_is : (file : FileKind) (bytes header : List ℕ) (epoch : ℕ) (found : Ending) → 10 < length bytes → header ≡ take (length header) bytes → 10 ≤ length header → get_or header 1 0 ≡ 1
+    → epoch ≡ number_of (drop 2 header) → found ≡ ending 0 10 (groups_of bytes)
+    → (is_open bytes ≡ true) × (made file epoch found.groups found.end ≡ gated_of file bytes (groups_of bytes).payloads)
+front_is file bytes header epoch found long front enough second epoch_is found_is =
+    let ten = take_ten header bytes front enough in
+    let gate : slice_index bytes 1 ≡ 1 = sym (get_or-take 10 bytes 1 0 (omega arith)) ∙ ap (λ (l : List ℕ). get_or l 1 0) (sym ten) ∙ get_or-take 10 header 1 0 (omega arith) ∙ second in
+    let longer : nat_le 11 (length bytes) ≡ true = le-leb 11 (length bytes) (omega (arith, long)) in
+    let same_epoch : number_of (drop 2 header) ≡ epoch_of bytes = number_same (drop 2 header) (drop 2 bytes) (piece_same 2 8 10 header bytes ten (omega arith)) in
+    let count : found.groups ≡ length (groups_of bytes).payloads = ap (λ (e : Ending). e.groups) found_is ∙ zero-add (length (groups_of bytes).payloads) in
+    let end : found.end ≡ end_of (groups_of bytes).payloads = ap (λ (e : Ending). e.end) found_is in
+    (rw (longer, gate) refl, same_gated file file _ _ _ _ _ _ refl (epoch_is ∙ same_epoch) count end)
+
+pub reads_front : (file : FileKind) (bytes : List ℕ) (gated : Gated) (is_broken : Bool) → is_open bytes ≡ true → gated ≡ gated_of file bytes (groups_of bytes).payloads → is_broken ≡ (groups_of bytes).is_broken
+    → Some (front_with gated is_broken) ≡ reading_of file bytes
+reads_front file bytes gated is_broken opened is broken_is = rw (opened, is, broken_is) refl

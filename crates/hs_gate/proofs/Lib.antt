@@ -1,0 +1,10 @@
+pub mod Carried
+pub mod Fronts
+pub mod Looking
+pub mod Numbers
+pub mod Parts
+pub mod Pieces
+pub mod Scanning
+pub mod Spelling
+pub mod Steps
+pub mod Writes

@@ -1,0 +1,11 @@
+use Rattle.hs_host.specs.Files.{IsHonest}
+use Rattle.hs_gate.proofs.Fronts.{created_is, created_fresh}
+use Rattle.hs_gate.proofs.gated.Gated.create.Goals as goal
+
+pub returns-clause-ok : goal.returns-clause-ok
+returns-clause-ok g c = λ told honest.
+    let later : IsHonest (g.H.Host.standing c.replace_from.new.host) = rw c.replace_from.ensures.standing honest in
+    created_is _ _ _ c.args.file (c.in_ok-replace_from.ensures.ok told honest) (c.in_ok-write_synced.ensures.ok told later)
+
+pub returns-clause-at_rest : goal.returns-clause-at_rest
+returns-clause-at_rest g c = λ told honest. rw c.empty.ensures (created_fresh _ _ c.args.file (returns-clause-ok g c told honest))

@@ -1,0 +1,46 @@
+use Rattle.std.proofs.Common.{◌≡◌, ℕ, List, length, take, drop, sym, ◌∙◌, ap, subst, arith}
+use Rattle.std.proofs.lemmas.List.{take_rest}
+use Rattle.hs_host.specs.Files.{Five, of, IsHonest}
+use Rattle.hs_gate.specs.declared.scan.Ending.{Ending}
+use Rattle.hs_gate.specs.Groups.{groups_of, number_of}
+use Rattle.hs_gate.specs.Gated.{IsFront}
+use Rattle.hs_gate.specs.Scan.{ending}
+use Rattle.hs_gate.specs.Window.{Shows}
+use Rattle.hs_gate.proofs.Pieces.{from_window}
+use Rattle.hs_gate.proofs.Fronts.{made, front_is, reads_front}
+use Rattle.hs_gate.proofs.gated.Gated.front.Goals as goal
+
+pub returns-clause-reading : goal.returns-clause-reading
+returns-clause-reading g c = λ told honest.
+    let honest_1 : IsHonest (g.H.Host.standing c.len.new.self) = rw c.len.ensures.standing honest in
+    let honest_2 : IsHonest (g.H.Host.standing c.bring.new.host) = rw c.bring.ensures.standing honest_1 in
+    let bytes = of (g.H.Host.files c.args.host.now) c.args.file in
+    let total : c.in_ok-total.total ≡ length bytes = c.in_ok-total.ensures.length told ∙ ap (λ (f : Five (List ℕ)). length (of f c.args.file)) (c.len.ensures.files told honest) in
+    let same = c.bring.ensures.files told honest_1 ∙ c.len.ensures.files told honest in
+    let shows = subst (λ (f : Five (List ℕ)). Shows c.bring.new.self (of f c.args.file)) same (c.in_ok-bring.ensures.shows told honest_1) in
+    let header = c.from-header.result.now in
+    let front : header ≡ take (length header) bytes = from_window _ bytes header _ _ 0 shows c.in_ok-bring.ensures.has.from (omega (arith, c.in_ok-bring.ensures.has.to)) c.from-header.ensures.bytes in
+    let epoch : c.number-epoch.result ≡ number_of (drop 2 header) = c.number-epoch.ensures ∙ ap number_of (take_rest header 2) in
+    let found : c.in_ok-found.found ≡ ending 0 10 (groups_of bytes) = c.in_ok-found.ensures.found told honest_2 ∙ ap (λ (f : Five (List ℕ)). ending 0 10 (groups_of (of f c.args.file))) same in
+    let made_is = front_is c.args.file bytes header c.number-epoch.result c.in_ok-found.found (omega (arith, total)) front
+    (omega (arith, c.from-header.ensures.count, c.in_ok-bring.ensures.has.to, c.in_ok-bring.ensures.has.from)) c.if-header-ne1.false epoch found in
+    reads_front c.args.file bytes _ c.in_ok-found.found.is_broken made_is.0 made_is.1 (ap (λ (e : Ending). e.is_broken) found)
+
+pub returns-clause-front : goal.returns-clause-front
+returns-clause-front g c = λ told honest.
+    let honest_1 : IsHonest (g.H.Host.standing c.len.new.self) = rw c.len.ensures.standing honest in
+    let honest_2 : IsHonest (g.H.Host.standing c.bring.new.host) = rw c.bring.ensures.standing honest_1 in
+    let bytes = of (g.H.Host.files c.args.host.now) c.args.file in
+    let total : c.in_ok-total.total ≡ length bytes = c.in_ok-total.ensures.length told ∙ ap (λ (f : Five (List ℕ)). length (of f c.args.file)) (c.len.ensures.files told honest) in
+    let same = c.bring.ensures.files told honest_1 ∙ c.len.ensures.files told honest in
+    let all = c.find.ensures.files told honest_2 ∙ same in
+    let shows = subst (λ (f : Five (List ℕ)). Shows c.bring.new.self (of f c.args.file)) same (c.in_ok-bring.ensures.shows told honest_1) in
+    let header = c.from-header.result.now in
+    let front : header ≡ take (length header) bytes = from_window _ bytes header _ _ 0 shows c.in_ok-bring.ensures.has.from (omega (arith, c.in_ok-bring.ensures.has.to)) c.from-header.ensures.bytes in
+    let epoch : c.number-epoch.result ≡ number_of (drop 2 header) = c.number-epoch.ensures ∙ ap number_of (take_rest header 2) in
+    let found : c.in_ok-found.found ≡ ending 0 10 (groups_of bytes) = c.in_ok-found.ensures.found told honest_2 ∙ ap (λ (f : Five (List ℕ)). ending 0 10 (groups_of (of f c.args.file))) same in
+    let made_is = front_is c.args.file bytes header c.number-epoch.result c.in_ok-found.found (omega (arith, total)) front
+    (omega (arith, c.from-header.ensures.count, c.in_ok-bring.ensures.has.to, c.in_ok-bring.ensures.has.from)) c.if-header-ne1.false epoch found in
+    let gated = made c.args.file c.number-epoch.result c.in_ok-found.found.groups c.in_ok-found.found.end in
+    let here : IsFront (g.H.Host.files c.args.host.now) gated = record { opened = made_is.0; is = made_is.1 } in
+    subst (λ (f : Five (List ℕ)). IsFront f gated) (sym all) here

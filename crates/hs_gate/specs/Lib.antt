@@ -1,0 +1,7 @@
+pub mod Changes
+pub mod Faults
+pub mod Gated
+pub mod Groups
+pub mod Scan
+pub mod Spelled
+pub mod Window

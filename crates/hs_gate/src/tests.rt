@@ -1,0 +1,230 @@
+// Files written by hand, and what no clause says: that the calls succeed where memory is there.
+ghost use Rattle.std.specs.Prelude.{◌≤◌, IfOk};
+ghost use Rattle.hs_host.specs.Files.{IsOpen, IsHonest};
+ghost use Rattle.hs_gate.specs.Gated.{IsFront};
+
+use crate::{GateFault, Gated, Part};
+use hs_host::{FileKind, Host};
+use hs_memhost::{CallList, Images, MemHost};
+use hs_values::Bytes;
+use std::alloc::Global;
+use std::test::Fail;
+
+// A birth byte, an open header gate, epoch 1, a group `A`, an empty group, a closed gate.
+const SMALL: [u8; 30] = [
+    1, 1, 0, 0, 0, 0, 0, 0, 0, 1, 1, 0, 0, 0, 0, 0, 0, 0, 1, 65, 1, 0, 0, 0, 0, 0, 0, 0, 0, 0,
+];
+
+// A place, and what the file is read as where 0, 1, 7 and 255 stand there: none, the first broken group, or its
+// epoch, its groups and the place behind them.
+const CHANGED: &str = "\
+0 1:2@29 1:2@29 1:2@29 1:2@29\n\
+1 - 1:2@29 - -\n\
+2 1:2@29 72057594037927937:2@29 504403158265495553:2@29 18374686479671623681:2@29\n\
+3 1:2@29 281474976710657:2@29 1970324836974593:2@29 71776119061217281:2@29\n\
+4 1:2@29 1099511627777:2@29 7696581394433:2@29 280375465082881:2@29\n\
+5 1:2@29 4294967297:2@29 30064771073:2@29 1095216660481:2@29\n\
+6 1:2@29 16777217:2@29 117440513:2@29 4278190081:2@29\n\
+7 1:2@29 65537:2@29 458753:2@29 16711681:2@29\n\
+8 1:2@29 257:2@29 1793:2@29 65281:2@29\n\
+9 0:2@29 1:2@29 7:2@29 255:2@29\n\
+10 1:0@10 1:2@29 1:0@10 1:0@10\n\
+11 1:2@29 !1 !1 !1\n\
+12 1:2@29 !1 !1 !1\n\
+13 1:2@29 !1 !1 !1\n\
+14 1:2@29 !1 !1 !1\n\
+15 1:2@29 !1 !1 !1\n\
+16 1:2@29 !1 !1 !1\n\
+17 1:2@29 !1 !1 !1\n\
+18 1:1@19 1:2@29 1:1@26 !1\n\
+19 1:2@29 1:2@29 1:2@29 1:2@29\n\
+20 1:1@20 1:2@29 1:1@20 1:1@20\n\
+21 1:2@29 !2 !2 !2\n\
+22 1:2@29 !2 !2 !2\n\
+23 1:2@29 !2 !2 !2\n\
+24 1:2@29 !2 !2 !2\n\
+25 1:2@29 !2 !2 !2\n\
+26 1:2@29 !2 !2 !2\n\
+27 1:2@29 !2 !2 !2\n\
+28 1:2@29 !2 !2 !2\n\
+29 1:2@29 !3 1:2@29 1:2@29";
+
+// What its first bytes are read as, from none of them on.
+const CUT: &str = "\
+- - - - - - - - - - - !1 \
+!1 !1 !1 !1 !1 !1 !1 !1 !1 !2 !2 !2 \
+!2 !2 !2 !2 !2 !2 1:2@29";
+
+// A host with these bytes as its log, whose files are open.
+fn opened(alloc: Global, log: Vec<u8>, failing: CallList) -> Result<MemHost, Fail>
+    ensures { IfOk result (λ host. IsOpen (⟦<MemHost as Host>⟧.standing host)) }
+{
+    let mut files = Images::new(alloc);
+    files.log = Bytes::from_vec(log);
+    let mut host = MemHost::new(alloc, Bytes::new(alloc), files, false, failing);
+    host.mount("d")?;
+    Ok(host)
+}
+
+// What a log is read as.
+fn reading(alloc: Global, log: Vec<u8>) -> Result<String, Fail> {
+    let mut host = opened(alloc, log, CallList::new(alloc))?;
+    Ok(match Gated::read(alloc, &mut host, FileKind::Log) {
+        Ok(None) => format!(in alloc; "-")?,
+        Ok(Some(g)) => format!(in alloc; "{}:{}@{}", g.epoch, g.groups, g.end)?,
+        Err(GateFault::Broken(number)) => format!(in alloc; "!{number}")?,
+        Err(fault) => format!(in alloc; "{fault:?}")?,
+    })
+}
+
+#[test]
+fn reads_each_changed_byte(rt: HostRuntime) -> Result<(), Fail> {
+    let alloc = rt.alloc();
+    for line in CHANGED.lines() {
+        let mut words = line.split(' ');
+        let place = words.next().ok_or("a place")?.parse::<usize>()?;
+        for (value, expected) in [0, 1, 7, 255].iter().zip(words) {
+            let mut log = SMALL.to_vec(alloc)?;
+            if let Some(byte) = log.get_mut(place) {
+                *byte = *value;
+            }
+            assert_eq!(rt;
+                reading(alloc, log)?.as_str(),
+                expected,
+                "{value} at {place}"
+            );
+        }
+    }
+    Ok(())
+}
+
+#[test]
+fn reads_each_cut_file(rt: HostRuntime) -> Result<(), Fail> {
+    let alloc = rt.alloc();
+    for (length, expected) in CUT.split(' ').enumerate() {
+        let mut log = SMALL.to_vec(alloc)?;
+        log.truncate(length);
+        assert_eq!(rt; reading(alloc, log)?.as_str(), expected, "{length} bytes");
+    }
+    Ok(())
+}
+
+#[test]
+fn reads_beyond_the_window(rt: HostRuntime) -> Result<(), Fail> {
+    let alloc = rt.alloc();
+    let mut log = b"\x01\x01\0\0\0\0\0\0\0\x02".to_vec(alloc)?;
+    for _ in 0..9_000 {
+        log.extend_from_slice(b"\x01\0\0\0\0\0\0\0\0")?;
+    }
+    log.extend_from_slice(b"\x01\0\0\0\0\0\x02\0\0")?;
+    log.extend_from_slice(&[1; 131_072])?;
+    log.push(0)?;
+    assert_eq!(rt; reading(alloc, log)?.as_str(), "2:9001@212091");
+    Ok(())
+}
+
+const FIRST: &[u8] = b"/*C1*/\nCREATE MEMORY TABLE T(ID INTEGER,V INTEGER)\nCOMMIT\n";
+
+const SECOND: &[u8] = b"INSERT INTO T VALUES(1,10)\nCOMMIT\n";
+
+// The first two groups.
+#[tactic(auto, using(crate::proofs::Parts::first_place))]
+fn two_parts<H: Host>(
+    alloc: Global,
+    host: &mut H,
+    gated: &Gated,
+) -> Result<Option<(Part, Part)>, GateFault>
+    requires opened { IsOpen (H.standing host.old) }
+    requires long { 10 ≤ gated.now.end }
+    requires front { H.tells → IsHonest (H.standing host.old) → IsFront (H.files host.old) gated.now }
+{
+    let Some(first) = gated.part(alloc, host, 10)? else {
+        return Ok(None);
+    };
+    let Some(second) = gated.part(alloc, host, first.next)? else {
+        return Ok(None);
+    };
+    Ok(Some((first, second)))
+}
+
+#[test]
+fn adds_groups(rt: HostRuntime) -> Result<(), Fail> {
+    let alloc = rt.alloc();
+    let mut host = opened(alloc, [7; 200].to_vec(alloc)?, CallList::new(alloc))?;
+    assert_eq!(rt; Gated::is_born(&mut host, FileKind::Log), Ok(false));
+    let mut log = Gated::create(&mut host, FileKind::Log)?;
+    assert_eq!(rt;
+        host.image(FileKind::Log),
+        b"\x01\x01\0\0\0\0\0\0\0\x01\0".as_slice()
+    );
+    assert_eq!(rt; Gated::is_born(&mut host, FileKind::Log), Ok(true));
+    log.append(&mut host, FIRST)?;
+    log.append(&mut host, SECOND)?;
+    assert_eq!(rt; (log.epoch, log.groups, log.end), (1, 2, 120));
+    let mut expected = b"\x01\x01\0\0\0\0\0\0\0\x01\x01\0\0\0\0\0\0\0\x3a".to_vec(alloc)?;
+    expected.extend_from_slice(FIRST)?;
+    expected.extend_from_slice(b"\x01\0\0\0\0\0\0\0\x22")?;
+    expected.extend_from_slice(SECOND)?;
+    expected.push(0)?;
+    assert_eq!(rt; host.image(FileKind::Log), expected.as_slice());
+    log.settle(&mut host)?;
+    assert_eq!(rt; host.image(FileKind::Log), expected.as_slice());
+    Ok(())
+}
+
+#[test]
+fn reads_parts(rt: HostRuntime) -> Result<(), Fail> {
+    let alloc = rt.alloc();
+    let mut log = b"\x01\x01\0\0\0\0\0\0\0\x02\x01\0\0\0\0\0\0\x02\0".to_vec(alloc)?;
+    log.extend_from_slice(&[65; 512])?;
+    log.extend_from_slice(b"\x01\0\0\0\0\0\0\0\x02ab\x01\0")?;
+    let mut host = opened(alloc, log, CallList::new(alloc))?;
+    let Some(front) = Gated::front(alloc, &mut host, FileKind::Log)? else {
+        return Err("closed")?;
+    };
+    assert_eq!(rt;
+        (front.gated.groups, front.gated.end, front.is_broken),
+        (2, 542, true)
+    );
+    let Some((first, second)) = two_parts(alloc, &mut host, &front.gated)? else {
+        return Err("none")?;
+    };
+    assert_eq!(rt; first.payload.as_slice(), [65; 512].as_slice());
+    assert_eq!(rt; first.next, 531);
+    assert_eq!(rt; second.payload.as_slice(), b"ab".as_slice());
+    assert_eq!(rt; second.next, 542);
+    Ok(())
+}
+
+#[test]
+fn starts_anew(rt: HostRuntime) -> Result<(), Fail> {
+    let alloc = rt.alloc();
+    let mut host = opened(alloc, SMALL.to_vec(alloc)?, CallList::new(alloc))?;
+    let length = host.len(FileKind::Log)?;
+    if length >= 2 {
+        Gated::start(&mut host, FileKind::Log, 258)?;
+    }
+    assert_eq!(rt;
+        host.image(FileKind::Log),
+        b"\x01\x01\0\0\0\0\0\0\x01\x02\0".as_slice()
+    );
+    assert_eq!(rt; host.calls(), 10);
+    Ok(())
+}
+
+#[test]
+fn each_call_of_an_append_may_fail(rt: HostRuntime) -> Result<(), Fail> {
+    let alloc = rt.alloc();
+    for call in 6..12 {
+        let failing = CallList::from_vec([call].to_vec(alloc)?);
+        let mut host = opened(alloc, Vec::new(alloc), failing)?;
+        let mut log = Gated::create(&mut host, FileKind::Log)?;
+        assert_eq!(rt;
+            log.append(&mut host, b"a"),
+            Err(GateFault::Disk),
+            "call {call}"
+        );
+        assert_eq!(rt; (log.groups, log.end), (0, 10));
+    }
+    Ok(())
+}

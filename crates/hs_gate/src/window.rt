@@ -1,0 +1,124 @@
+// Bytes of a file at hand.
+ghost use Rattle.std.specs.Prelude.{◌≡◌, ◌+◌, ◌-◌, ◌^◌, ◌<◌, ◌≤◌, min, length, take, drop, IfOk, OnOk, IsTrue};
+ghost use Rattle.hs_host.specs.Files.{of, IsOpen, IsHonest};
+ghost use Rattle.hs_gate.specs.Faults.{HasGateCause, IsNeverBroken};
+
+use crate::gate_fault::GateFault;
+use crate::reading::read_front;
+use hs_host::{FileKind, Host};
+use std::alloc::{AllocError, Global};
+
+/// How many bytes are brought at once.
+pub const WINDOW_BYTES: usize = 65_536;
+
+/// Some bytes of a file, one behind the other.
+#[derive(Drop)]
+pub struct Window {
+    buffer: Vec<u8>,
+    // The place of the first one.
+    base: u64,
+    count: usize,
+}
+
+impl Window {
+    ghost use Rattle.hs_gate.specs.Window.{IsSound, Shows, Has};
+
+    /// No bytes. `NoMemory` is free.
+    pub fn new(alloc: Global) -> Result<Window, AllocError>
+        ensures sound { IfOk result IsSound }
+        ensures none { IfOk result (λ window. window.count ≡ 0) }
+    {
+        Ok(Window {
+            buffer: vec![in alloc; 0; WINDOW_BYTES]?,
+            base: 0,
+            count: 0,
+        })
+    }
+
+    /// The bytes at hand from a place on.
+    #[inline]
+    pub fn from(&self, at: u64) -> &[u8]
+        requires sound { IsSound self.now }
+        requires there { Has self.now at 0 }
+        ensures bytes { result.now ≡ drop (at - self.now.base) (take self.now.count self.now.buffer.items) }
+        ensures count { length result.now + (at - self.now.base) ≡ self.now.count }
+    {
+        &self.buffer[(at - self.base) as usize..self.count]
+    }
+
+    // Whether so many bytes from a place on are at hand.
+    #[inline]
+    fn has(&self, at: u64, count: u64) -> bool
+        requires { at + count < 2 ^ 64 }
+        ensures { IsTrue result → Has self.now at count }
+    {
+        self.base <= at && at - self.base + count <= self.count as u64
+    }
+
+    /// Brings bytes from a place on, where the file has `left` more: at least as many as `need` says.
+    #[inline]
+    pub fn bring<H: Host>(
+        &mut self,
+        host: &mut H,
+        file: FileKind,
+        at: u64,
+        left: u64,
+        need: u64,
+    ) -> Result<(), GateFault>
+        requires sound { IsSound self.old }
+        requires opened { IsOpen (H.standing host.old) }
+        requires room { at + left < 2 ^ 64 }
+        requires needed { need ≤ left }
+        requires small { need ≤ WINDOW_BYTES }
+        requires within { H.tells → IsHonest (H.standing host.old) → at + left ≤ length (of (H.files host.old) file) }
+        requires shows { H.tells → IsHonest (H.standing host.old) → Shows self.old (of (H.files host.old) file) }
+        ensures sound { IsSound self.new }
+        ensures has { OnOk result (Has self.new at need) }
+        ensures shows { H.tells → IsHonest (H.standing host.old) → OnOk result (Shows self.new (of (H.files host.new) file)) }
+        ensures files { H.tells → IsHonest (H.standing host.old) → H.files host.new ≡ H.files host.old }
+        ensures cause { HasGateCause (H.disk_faults host.old) (H.disk_faults host.new) result }
+        ensures whole { IsNeverBroken result }
+        ensures standing { H.standing host.new ≡ H.standing host.old }
+        ensures input { H.unread host.new ≡ H.unread host.old }
+        ensures input_faults { H.input_faults host.new ≡ H.input_faults host.old }
+        ensures output { H.written host.new ≡ H.written host.old }
+        ensures output_faults { H.output_faults host.new ≡ H.output_faults host.old }
+    {
+        if self.has(at, need) {
+            return Ok(());
+        }
+        self.fill(host, file, at, left)
+    }
+
+    // Reads as many bytes as there is room for.
+    #[inline(never)]
+    fn fill<H: Host>(
+        &mut self,
+        host: &mut H,
+        file: FileKind,
+        at: u64,
+        left: u64,
+    ) -> Result<(), GateFault>
+        requires sound { IsSound self.old }
+        requires opened { IsOpen (H.standing host.old) }
+        requires within { H.tells → IsHonest (H.standing host.old) → at + left ≤ length (of (H.files host.old) file) }
+        ensures sound { IsSound self.new }
+        ensures base { OnOk result (self.new.base ≡ at) }
+        ensures count { OnOk result (self.new.count ≡ min left WINDOW_BYTES) }
+        ensures shows { H.tells → IsHonest (H.standing host.old) → OnOk result (Shows self.new (of (H.files host.new) file)) }
+        ensures files { H.tells → IsHonest (H.standing host.old) → H.files host.new ≡ H.files host.old }
+        ensures cause { HasGateCause (H.disk_faults host.old) (H.disk_faults host.new) result }
+        ensures whole { IsNeverBroken result }
+        ensures standing { H.standing host.new ≡ H.standing host.old }
+        ensures input { H.unread host.new ≡ H.unread host.old }
+        ensures input_faults { H.input_faults host.new ≡ H.input_faults host.old }
+        ensures output { H.written host.new ≡ H.written host.old }
+        ensures output_faults { H.output_faults host.new ≡ H.output_faults host.old }
+    {
+        let count = left.min(WINDOW_BYTES as u64) as usize;
+        read_front(host, file, at, &mut self.buffer, count)?;
+        self.base = at;
+        self.count = count;
+        Ok(())
+    }
+}

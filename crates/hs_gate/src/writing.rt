@@ -1,0 +1,86 @@
+// Writes that are brought to the disk.
+ghost use Rattle.std.specs.Prelude.{◌≡◌, ℕ, ◌+◌, ◌^◌, ◌<◌, ◌≤◌, List, [], ◌∷◌, ◌++◌, length, take, OnOk};
+ghost use Rattle.hs_host.specs.Files.{of, with_, overwrite, IsOpen, IsHonest};
+ghost use Rattle.hs_gate.specs.Faults.{HasGateCause, IsNeverBroken};
+ghost use Rattle.hs_gate.specs.Changes.{IsOnly};
+ghost use Rattle.hs_gate.specs.Groups.{eight_bytes};
+
+use crate::gate_fault::GateFault;
+use hs_host::{FileKind, Host};
+
+/// Writes bytes, and syncs them.
+pub fn write_synced<H: Host>(
+    host: &mut H,
+    file: FileKind,
+    at: u64,
+    bytes: &[u8],
+) -> Result<(), GateFault>
+    requires opened { IsOpen (H.standing host.old) }
+    requires within { H.tells → IsHonest (H.standing host.old) → at ≤ length (of (H.files host.old) file) }
+    ensures ok { H.tells → IsHonest (H.standing host.old) → OnOk result (H.files host.new ≡ with_ (H.files host.old) file (overwrite (of (H.files host.old) file) at bytes.now)) }
+    ensures others { H.tells → IsHonest (H.standing host.old) → IsOnly (H.files host.old) file (H.files host.new) }
+    ensures cause { HasGateCause (H.disk_faults host.old) (H.disk_faults host.new) result }
+    ensures whole { IsNeverBroken result }
+    ensures standing { H.standing host.new ≡ H.standing host.old }
+    ensures input { H.unread host.new ≡ H.unread host.old }
+    ensures input_faults { H.input_faults host.new ≡ H.input_faults host.old }
+    ensures output { H.written host.new ≡ H.written host.old }
+    ensures output_faults { H.output_faults host.new ≡ H.output_faults host.old }
+{
+    host.write(file, at, bytes)?;
+    host.sync(file)?;
+    Ok(())
+}
+
+/// Puts these bytes in place of all that stand from a place on, and syncs them. The file is never shorter on
+/// the way.
+pub fn replace_from<H: Host>(
+    host: &mut H,
+    file: FileKind,
+    at: u64,
+    bytes: &[u8],
+) -> Result<(), GateFault>
+    requires opened { IsOpen (H.standing host.old) }
+    requires room { at + length bytes.now < 2 ^ 64 }
+    requires within { H.tells → IsHonest (H.standing host.old) → at ≤ length (of (H.files host.old) file) }
+    ensures ok { H.tells → IsHonest (H.standing host.old) → OnOk result (H.files host.new ≡ with_ (H.files host.old) file (take at (of (H.files host.old) file) ++ bytes.now)) }
+    ensures others { H.tells → IsHonest (H.standing host.old) → IsOnly (H.files host.old) file (H.files host.new) }
+    ensures cause { HasGateCause (H.disk_faults host.old) (H.disk_faults host.new) result }
+    ensures whole { IsNeverBroken result }
+    ensures standing { H.standing host.new ≡ H.standing host.old }
+    ensures input { H.unread host.new ≡ H.unread host.old }
+    ensures input_faults { H.input_faults host.new ≡ H.input_faults host.old }
+    ensures output { H.written host.new ≡ H.written host.old }
+    ensures output_faults { H.output_faults host.new ≡ H.output_faults host.old }
+{
+    host.write(file, at, bytes)?;
+    host.cut(file, at + bytes.len() as u64)?;
+    host.sync(file)?;
+    Ok(())
+}
+
+/// Writes the length of a payload, the payload and a closed gate, and syncs them.
+pub fn write_payload<H: Host>(
+    host: &mut H,
+    file: FileKind,
+    at: u64,
+    payload: &[u8],
+) -> Result<(), GateFault>
+    requires opened { IsOpen (H.standing host.old) }
+    requires room { at + 8 + length payload.now < 2 ^ 64 }
+    requires within { H.tells → IsHonest (H.standing host.old) → at ≤ length (of (H.files host.old) file) }
+    ensures ok { H.tells → IsHonest (H.standing host.old) → OnOk result (H.files host.new ≡ with_ (H.files host.old) file (overwrite (of (H.files host.old) file) at (eight_bytes (length payload.now) ++ payload.now ++ 0 ∷ []))) }
+    ensures others { H.tells → IsHonest (H.standing host.old) → IsOnly (H.files host.old) file (H.files host.new) }
+    ensures cause { HasGateCause (H.disk_faults host.old) (H.disk_faults host.new) result }
+    ensures whole { IsNeverBroken result }
+    ensures standing { H.standing host.new ≡ H.standing host.old }
+    ensures input { H.unread host.new ≡ H.unread host.old }
+    ensures input_faults { H.input_faults host.new ≡ H.input_faults host.old }
+    ensures output { H.written host.new ≡ H.written host.old }
+    ensures output_faults { H.output_faults host.new ≡ H.output_faults host.old }
+{
+    let size = payload.len() as u64;
+    host.write(file, at, &size.to_be_bytes())?;
+    host.write(file, at + 8, payload)?;
+    write_synced(host, file, at + 8 + size, &[0])
+}

@@ -1,0 +1,127 @@
+// The whole outside.
+ghost use Rattle.std.specs.Prelude.{◌≡◌, ℕ, ◌+◌, ◌^◌, ◌<◌, ◌≤◌, List, [], ◌++◌, length, take, IfOk, OnOk, OnErr, IsErrOf};
+ghost use Rattle.std.specs.Io.{WritesAtMost};
+ghost use Rattle.hs_host.specs.Files.{Five, of, with_, overwrite, piece, Standing, IsUnnamed, IsOpen, IsForeign, IsHonest, mounted};
+ghost use Rattle.hs_host.specs.Host.{HasCause, HasMountCause, Rose, AddsOutput};
+
+use crate::file_kind::FileKind;
+use crate::host_fault::HostFault;
+use crate::mount_fault::MountFault;
+use crate::source::Source;
+
+/// The whole outside. There is one host for all devices, so that they share one clock.
+///
+/// Every call on a file needs a host whose `mount` answered `Ok`.
+pub trait Host: Source {
+    /// The output so far.
+    ghost written: { Self → List ℕ };
+
+    /// How often writing the output has failed.
+    ghost output_faults: { Self → ℕ };
+
+    /// What a read of each file gives.
+    ghost files: { Self → Five (List ℕ) };
+
+    /// Its name, whether its files are open, and whether they are foreign and read honestly. Only `mount`
+    /// changes it.
+    ghost standing: { Self → Standing };
+
+    /// How often a call on the files has failed.
+    ghost disk_faults: { Self → ℕ };
+
+    /// Takes bytes from the front of `bytes` as the next output, and answers how many. Taking none of a
+    /// piece that isn't empty is a failure too, and raises `output_faults`.
+    fn write_output(&mut self, bytes: &[u8]) -> Result<usize, HostFault>
+        ensures bound { WritesAtMost result bytes.now }
+        ensures output { Self.tells → AddsOutput (written self.old) (written self.new) bytes.now result }
+        ensures none { IfOk result (λ n. n ≡ 0 → 0 < length bytes.now → Rose (output_faults self.old) (output_faults self.new)) }
+        ensures cause { HasCause (output_faults self.old) (output_faults self.new) result }
+        ensures input { Self.unread self.new ≡ Self.unread self.old }
+        ensures input_faults { Self.input_faults self.new ≡ Self.input_faults self.old }
+        ensures files { files self.new ≡ files self.old }
+        ensures standing { standing self.new ≡ standing self.old }
+        ensures disk_faults { disk_faults self.new ≡ disk_faults self.old };
+
+    /// Opens the files of the database `name`, which are `name` with `.script`, `.script.new`, `.log`,
+    /// `.data` and `.backup` behind it, and makes missing ones empty. From then on the host has this name,
+    /// but after want of memory. It answers `Foreign` exactly where `name.properties` stands there.
+    fn mount(&mut self, name: &str) -> Result<(), MountFault>
+        requires { IsUnnamed (standing self.old) }
+        ensures standing { standing self.new ≡ mounted name.now result (standing self.old) }
+        ensures foreign { Self.tells → IsErrOf result MountFault.Foreign → IsForeign (standing self.old) }
+        ensures own { Self.tells → OnOk result (IsForeign (standing self.old) → ⊥) }
+        ensures files { Self.tells → files self.new ≡ files self.old }
+        ensures cause { HasMountCause (disk_faults self.old) (disk_faults self.new) result }
+        ensures input { Self.unread self.new ≡ Self.unread self.old }
+        ensures input_faults { Self.input_faults self.new ≡ Self.input_faults self.old }
+        ensures output { written self.new ≡ written self.old }
+        ensures output_faults { output_faults self.new ≡ output_faults self.old };
+
+    /// The length of a file in bytes.
+    fn len(&mut self, file: FileKind) -> Result<u64, HostFault>
+        requires { IsOpen (standing self.old) }
+        ensures length { Self.tells → IfOk result (λ n. n ≡ length (of (files self.new) file)) }
+        ensures files { Self.tells → IsHonest (standing self.old) → files self.new ≡ files self.old }
+        ensures cause { HasCause (disk_faults self.old) (disk_faults self.new) result }
+        ensures standing { standing self.new ≡ standing self.old }
+        ensures input { Self.unread self.new ≡ Self.unread self.old }
+        ensures input_faults { Self.input_faults self.new ≡ Self.input_faults self.old }
+        ensures output { written self.new ≡ written self.old }
+        ensures output_faults { output_faults self.new ≡ output_faults self.old };
+
+    /// Fills `buf` with the bytes of a file from the place `at` on. They must all be there.
+    fn read(&mut self, file: FileKind, at: u64, buf: &mut [u8]) -> Result<(), HostFault>
+        requires opened { IsOpen (standing self.old) }
+        requires within { Self.tells → IsHonest (standing self.old) → at + length buf.old ≤ length (of (files self.old) file) }
+        ensures bytes { Self.tells → OnOk result (buf.new ≡ piece at (length buf.new) (of (files self.new) file)) }
+        ensures files { Self.tells → IsHonest (standing self.old) → files self.new ≡ files self.old }
+        ensures cause { HasCause (disk_faults self.old) (disk_faults self.new) result }
+        ensures standing { standing self.new ≡ standing self.old }
+        ensures input { Self.unread self.new ≡ Self.unread self.old }
+        ensures input_faults { Self.input_faults self.new ≡ Self.input_faults self.old }
+        ensures output { written self.new ≡ written self.old }
+        ensures output_faults { output_faults self.new ≡ output_faults self.old };
+
+    /// Puts `bytes` into a file from the place `at` on, over what stands there and beyond the file's end.
+    /// `at` is at most the file's length, and a file never gets longer than 2^62 bytes.
+    fn write(&mut self, file: FileKind, at: u64, bytes: &[u8]) -> Result<(), HostFault>
+        requires opened { IsOpen (standing self.old) }
+        requires within { Self.tells → IsHonest (standing self.old) → at ≤ length (of (files self.old) file) }
+        ensures room { OnOk result (at + length bytes.now ≤ 2 ^ 62) }
+        ensures ok { Self.tells → IsHonest (standing self.old) → OnOk result (files self.new ≡ with_ (files self.old) file (overwrite (of (files self.old) file) at bytes.now)) }
+        ensures err { Self.tells → IsHonest (standing self.old) → OnErr result (files self.new ≡ files self.old) }
+        ensures cause { HasCause (disk_faults self.old) (disk_faults self.new) result }
+        ensures standing { standing self.new ≡ standing self.old }
+        ensures input { Self.unread self.new ≡ Self.unread self.old }
+        ensures input_faults { Self.input_faults self.new ≡ Self.input_faults self.old }
+        ensures output { written self.new ≡ written self.old }
+        ensures output_faults { output_faults self.new ≡ output_faults self.old };
+
+    /// Cuts a file to its first `len` bytes, which must be there.
+    fn cut(&mut self, file: FileKind, len: u64) -> Result<(), HostFault>
+        requires opened { IsOpen (standing self.old) }
+        requires within { Self.tells → IsHonest (standing self.old) → len ≤ length (of (files self.old) file) }
+        ensures ok { Self.tells → IsHonest (standing self.old) → OnOk result (files self.new ≡ with_ (files self.old) file (take len (of (files self.old) file))) }
+        ensures err { Self.tells → IsHonest (standing self.old) → OnErr result (files self.new ≡ files self.old) }
+        ensures cause { HasCause (disk_faults self.old) (disk_faults self.new) result }
+        ensures standing { standing self.new ≡ standing self.old }
+        ensures input { Self.unread self.new ≡ Self.unread self.old }
+        ensures input_faults { Self.input_faults self.new ≡ Self.input_faults self.old }
+        ensures output { written self.new ≡ written self.old }
+        ensures output_faults { output_faults self.new ≡ output_faults self.old };
+
+    /// Brings a file to the disk. After an `Ok` its bytes and its length stand there.
+    fn sync(&mut self, file: FileKind) -> Result<(), HostFault>
+        requires { IsOpen (standing self.old) }
+        ensures files { Self.tells → IsHonest (standing self.old) → files self.new ≡ files self.old }
+        ensures cause { HasCause (disk_faults self.old) (disk_faults self.new) result }
+        ensures standing { standing self.new ≡ standing self.old }
+        ensures input { Self.unread self.new ≡ Self.unread self.old }
+        ensures input_faults { Self.input_faults self.new ≡ Self.input_faults self.old }
+        ensures output { written self.new ≡ written self.old }
+        ensures output_faults { output_faults self.new ≡ output_faults self.old };
+
+    ghost reading_keeps_output: { (a b : Self) → Self.only_input a b → (written b ≡ written a) × (output_faults b ≡ output_faults a) };
+
+    ghost reading_keeps_files: { (a b : Self) → Self.only_input a b → (files b ≡ files a) × (standing b ≡ standing a) × (disk_faults b ≡ disk_faults a) };
+}

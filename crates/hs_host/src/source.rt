@@ -1,0 +1,33 @@
+// Where the input comes from.
+ghost use Rattle.std.specs.Prelude.{◌≡◌, ℕ, ◌<◌, ◌≤◌, List, [], ◌++◌, length, take};
+ghost use Rattle.std.specs.Io.{ReadsAtMost};
+ghost use Rattle.hs_host.specs.Host.{HasCause, Rose, TakesInput};
+
+use crate::host_fault::HostFault;
+
+/// Where the input comes from. This is all that a reader of entries needs.
+pub trait Source {
+    /// The host tells the bytes that it reads and writes.
+    ghost tells: { Type 0 };
+
+    /// The input that isn't read yet.
+    ghost unread: { Self → List ℕ };
+
+    /// How often reading has failed.
+    ghost input_faults: { Self → ℕ };
+
+    /// Between these two states of a host only input was read.
+    ghost only_input: { Self → Self → Type 0 };
+
+    /// Puts bytes of the input at the front of `buf` and answers how many. It answers 0 for a `buf` that
+    /// isn't empty only at the end of the input.
+    fn read_input(&mut self, buf: &mut [u8]) -> Result<usize, HostFault>
+        ensures bound { ReadsAtMost result buf.new }
+        ensures bytes { tells → TakesInput (unread self.old) (unread self.new) result buf.new }
+        ensures cause { HasCause (input_faults self.old) (input_faults self.new) result }
+        ensures only { only_input self.old self.new };
+
+    ghost nothing_read: { (h : Self) → only_input h h };
+
+    ghost read_on: { (a b c : Self) → only_input a b → only_input b c → only_input a c };
+}

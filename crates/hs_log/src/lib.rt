@@ -1,0 +1,8 @@
+//! The journal: a gated file whose groups are commits.
+#![tactic(auto)]
+
+mod commit;
+#[cfg(test)]
+mod tests;
+
+pub use commit::log_commit;

@@ -1,0 +1,214 @@
+-- That a log gives what the runs before it made.
+use Rattle.std.proofs.Common.{◌≡◌, ℕ, ◌+◌, ◌<◌, ◌≤◌, Bool, true, false, cond, List, [], ◌∷◌, ◌++◌, length, Option, Some, None, Result, Ok, Err, rules, refl, sym, ap, subst, ◌∙◌, arith, length-append}
+use Rattle.std.specs.Prelude.{IfSome, nat_le, nat_lt, ◌==◌, ◌&&◌}
+use Rattle.std.specs.Str.{bytes_eq}
+use Rattle.std.proofs.lemmas.Option.{same_Some}
+use Rattle.hs_values.specs.declared.value.Value.{Value}
+use Rattle.hs_entries.specs.declared.item.Item.{Item}
+use Rattle.hs_entries.specs.declared.item.Item.TheVariants.{Entry, Bad, TooLong, End}
+use Rattle.hs_entries.specs.Items.{items}
+use Rattle.hs_gate.specs.Groups.{Groups, groups_of, is_born, is_open, epoch_of}
+use Rattle.hs_top.specs.declared.commit_text.Commit.{Commit}
+use Rattle.hs_top.specs.declared.database.Database.{Database}
+use Rattle.hs_top.specs.declared.table.Table.{Table}
+use Rattle.hs_top.specs.declared.table.TheConstants.{MOST_TABLES}
+use Rattle.hs_top.specs.declared.statement.Statement.{Statement}
+use Rattle.hs_top.specs.declared.statement.Statement.TheVariants.{Create, Insert, Select}
+use Rattle.hs_top.specs.declared.refusal.Refusal.TheVariants.{NotBuilt}
+use Rattle.hs_top.specs.Statement.{◌>>=◌, statement_of}
+use Rattle.hs_top.specs.CommitText.{commit_text, commit_of, IsSession, IsChange}
+use Rattle.hs_top.specs.Database.{Outcome, executed, performed, created, inserted, selected, refused, committed, with_row, table_of, first_repeated}
+use Rattle.hs_top.specs.Machine.{State, Step, machine, step_of, entered, did, is_commit, turn, steps, texts, texts_of}
+use Rattle.hs_top.specs.Opening.{Opened, nothing_logged, redone, replayed, if_made, unless_broken, opened_of, texts_at, texts_from, begun_with, opened_at, ended_with, IsWholeLog}
+use Rattle.hs_top.specs.Sessions.{Joined, number_from, number_in, made, joined}
+use Rattle.hs_top.proofs.Numerals.{bind_some}
+use Rattle.hs_top.proofs.Committed.{commit_back, commit_lawful}
+use Rattle.hs_top.proofs.Spelled.{statement_spelled}
+
+abbrev goes_on : Option Opened → ℕ → List (List ℕ) → Result Opened ℕ
+goes_on r n ts = elim r [ Some next ↦ replayed next ts | None ↦ Err n ]
+
+abbrev failed : ℕ → Result Opened ℕ
+failed n = Err n
+
+-- texts behind those that made something go on from there
+through : (r : Option Opened) (n : ℕ) (ts more : List (List ℕ)) (p : Opened) → ((next : Opened) → replayed next ts ≡ Ok p → replayed next (ts ++ more) ≡ replayed p more)
+    → goes_on r n ts ≡ Ok p → goes_on r n (ts ++ more) ≡ replayed p more
+through (Some next) n ts more p go is = go next is
+through None n ts more p go is = absurd (cc)
+
+same_Ok : (o p : Opened) → (let r : Result Opened ℕ = Ok o in r) ≡ Ok p → o ≡ p
+same_Ok o p is = cc
+
+pub replayed_on : (ts more : List (List ℕ)) (o p : Opened) → replayed o ts ≡ Ok p → replayed o (ts ++ more) ≡ replayed p more
+replayed_on [] more o p is = ap (λ (x : Opened). replayed x more) (same_Ok o p is)
+replayed_on (t ∷ ts) more o p is = through (redone o t) (o.database.commits + 1) ts more p (λ next. replayed_on ts more next p) is
+
+-- a statement that is no commit changes nothing, and one that is can be logged
+refused_or : (b : Bool) (db : Database) (x y : Outcome) → x.database ≡ db → is_commit y.reply ≡ true → is_commit (cond b x y).reply ≡ false → (cond b x y).database ≡ db
+refused_or true db x y same made is = same
+refused_or false db x y same made is = absurd (cc)
+
+created_same : (db : Database) (name : List ℕ) (columns : List (List ℕ)) (there : Option Table) (repeated : Option (List ℕ)) → is_commit (created db name columns there repeated).reply ≡ false → (created db name columns there repeated).database ≡ db
+created_same db name columns (Some t) repeated is = refl
+created_same db name columns None (Some c) is = refl
+created_same db name columns None None is =
+    refused_or (nat_le MOST_TABLES (length db.tables)) db (refused db NotBuilt) (committed db (db.tables ++ (name, record { columns = columns; rows = [] }) ∷ []) None) refl refl is
+
+inserted_same : (db : Database) (name : List ℕ) (row : List Value) (there : Option Table) → is_commit (inserted db name row there).reply ≡ false → (inserted db name row there).database ≡ db
+inserted_same db name row None is = refl
+inserted_same db name row (Some t) is = turned (length row == length t.columns) is
+  where
+    turned : (b : Bool) → is_commit (cond b (committed db (with_row db.tables name row) (Some 1)) (refused db NotBuilt)).reply ≡ false
+        → (cond b (committed db (with_row db.tables name row) (Some 1)) (refused db NotBuilt)).database ≡ db
+    turned true is = absurd (cc)
+    turned false is = refl
+
+selected_same : (db : Database) (name : List ℕ) (there : Option Table) → (selected db name there).database ≡ db
+selected_same db name None = refl
+selected_same db name (Some t) = refl
+
+selected_quiet : (db : Database) (name : List ℕ) (there : Option Table) → is_commit (selected db name there).reply ≡ true → ⊥
+selected_quiet db name None is = absurd (cc)
+selected_quiet db name (Some t) is = absurd (cc)
+
+executed_same : (db : Database) (s : Statement) → is_commit (executed db s).reply ≡ false → (executed db s).database ≡ db
+executed_same db (Create name columns) is = created_same db name columns (table_of db.tables name) (first_repeated [] columns) is
+executed_same db (Insert name row) is = inserted_same db name row (table_of db.tables name) is
+executed_same db (Select name) is = selected_same db name (table_of db.tables name)
+
+executed_change : (db : Database) (s : Statement) → is_commit (executed db s).reply ≡ true → IsChange s
+executed_change db (Create name columns) is = tt
+executed_change db (Insert name row) is = tt
+executed_change db (Select name) is = absurd (selected_quiet db name (table_of db.tables name) is)
+
+-- the text of a commit makes it again
+module _ (last : Option ℕ) (db : Database) (n : ℕ) (s : Statement) (out : Outcome) (out_is : out ≡ executed db s) where
+  remade : (c : Bool) → is_commit out.reply ≡ c → (c ≡ true → commit_of last (commit_text last n s) ≡ Some (record { session = n; statement = s })) → (c ≡ false → out.database ≡ db)
+      → replayed (record { last = last; database = db }) (cond c (commit_text last n s ∷ []) []) ≡ Ok (record { last = cond c (Some n) last; database = out.database })
+  remade true is read same =
+      let found : redone (record { last = last; database = db }) (commit_text last n s) ≡ Some (record { last = Some n; database = out.database }) =
+      ap (λ (x : Option Commit). x >>= λ c. if_made c.session (executed db c.statement)) (read refl)
+      ∙ sym (ap (if_made n) out_is)
+      ∙ ap (λ (b : Bool). cond b (Some (record { last = Some n; database = out.database })) None) is in
+      ap (λ (r : Option Opened). elim r [ Some next ↦ replayed next [] | None ↦ Err (db.commits + 1) ]) found
+  remade false is read same = ap (λ (d : Database). Ok (record { last = last; database = d })) (sym (same refl))
+
+-- numbers of sessions are those of their places
+number_within : (ns : List (List ℕ)) (k : ℕ) (name : List ℕ) (m : ℕ) → number_from k name ns ≡ Some m → (k ≤ m) × (m < k + length ns)
+number_within [] k name m is = absurd (cc)
+number_within (n ∷ ns) k name m is = either (bytes_eq n name) (number_within ns (k + 1) name m) is
+  where
+    either : (b : Bool) → (number_from (k + 1) name ns ≡ Some m → (k + 1 ≤ m) × (m < k + 1 + length ns)) → cond b (Some k) (number_from (k + 1) name ns) ≡ Some m → (k ≤ m) × (m < k + length (n ∷ ns))
+    either true rest e = let same = same_Some k m e in (omega (arith, same), omega (arith, same))
+    either false rest e = let more = rest e in (omega (arith, more.0), omega (arith, more.1))
+
+record Fits (j : Joined) : Type 0 where
+  number : IsSession j.number
+  few : length j.sessions ≤ 64
+
+joined_fits : (name : List ℕ) (sessions : List (List ℕ)) (j : Joined) → length sessions ≤ 64 → joined name sessions ≡ Some j → Fits j
+joined_fits name sessions j few is = found (number_in name sessions) refl is
+  where
+    found : (there : Option ℕ) → number_in name sessions ≡ there → elim there [ Some number ↦ Some (record { number = number; sessions = sessions }) | None ↦ made name sessions ] ≡ Some j → Fits j
+    found (Some number) at e =
+        let within = number_within sessions 1 name number at in
+        subst Fits (same_Some _ _ e) (record { number = (omega (arith, within.0), omega (arith, within.1, few)); few = few })
+    found None at e = fresh (nat_lt (length sessions) 64) refl e
+      where
+        fresh : (b : Bool) → nat_lt (length sessions) 64 ≡ b → cond b (Some (record { number = length sessions + 1; sessions = sessions ++ name ∷ [] })) None ≡ Some j → Fits j
+        fresh true more e = subst Fits (same_Some _ _ e) (record { number = (omega arith, omega (arith, few)); few = let room : length sessions < 64 = search (rules, more) in omega (arith, room, length-append sessions (name ∷ [])) })
+        fresh false more e = absurd (cc)
+
+-- a state that its own log could give
+pub record IsFit (s : State) : Type 0 where
+  pub few : length s.sessions ≤ 64
+  pub last : IfSome s.last IsSession
+
+abbrev IsRemade : State → Step → Type 0
+IsRemade s step = (replayed (opened_at s) step.texts ≡ Ok (opened_at step.next)) × IsFit step.next
+
+kept_last : (c : Bool) (n : ℕ) (last : Option ℕ) → IsSession n → IfSome last IsSession → IfSome (cond c (Some n) last) IsSession
+kept_last true n last session before = session
+kept_last false n last session before = before
+
+did_remade : (number : ℕ) (name : List ℕ) (j : Joined) (text : List ℕ) (st : Option Statement) (s : State) → statement_of text ≡ st → IsFit s → Fits j → IsRemade s (did number name j st s (performed s.database st))
+did_remade number name j text None s is fit fits = (refl, record { few = fits.few; last = fit.last })
+did_remade number name j text (Some st) s is fit fits =
+    let out = executed s.database st in (
+      remade s.last s.database j.number st out refl (is_commit out.reply) refl
+          (λ c. commit_back s.last (record { session = j.number; statement = st }) (fits.number, executed_change s.database st c, (statement_spelled text st is).1))
+          (executed_same s.database st),
+      record { few = fits.few; last = kept_last (is_commit out.reply) j.number s.last fits.number fit.last },
+    )
+
+step_remade : (item : Item) (s : State) → IsFit s → IsRemade s (step_of item s)
+step_remade (Bad n) s fit = (refl, fit)
+step_remade (TooLong n) s fit = (refl, fit)
+step_remade End s fit = (refl, fit)
+step_remade (Entry n name text at) s fit = entry (joined name s.sessions) refl
+  where
+    entry : (j : Option Joined) → joined name s.sessions ≡ j → IsRemade s (entered n name (statement_of text) s j)
+    entry None is = (refl, fit)
+    entry (Some j) is = did_remade n name j text (statement_of text) s refl fit (joined_fits name s.sessions j fit.few is)
+
+-- and so does a run
+pub run_remade : (items : List Item) (s : State) → IsFit s → replayed (opened_at s) (texts_of (machine items s)) ≡ Ok (opened_at (steps (length items) (machine items s)).state)
+unfolding texts_of texts steps turn
+run_remade [] s fit = refl
+run_remade (item ∷ items) s fit =
+    let one = step_remade item s fit in
+    replayed_on (step_of item s).texts (texts (length items) (machine items (step_of item s).next)) (opened_at s) (opened_at (step_of item s).next) one.0
+    ∙ run_remade items (step_of item s).next one.1
+
+-- the texts of an old log give what it gives
+if_unbroken : (groups : Groups) (r : Result Opened ℕ) (p : Opened) → unless_broken groups r ≡ Ok p → r ≡ Ok p
+if_unbroken groups (Err n) p is = absurd (cc)
+if_unbroken groups (Ok o) p is = whole groups.is_broken is
+  where
+    whole : (b : Bool) → cond b (failed (length groups.payloads + 1)) (Ok o) ≡ Ok p → (let r : Result Opened ℕ = Ok o in r) ≡ Ok p
+    whole true e = absurd (cc)
+    whole false e = e
+
+old_log : (b c : Bool) (groups : Groups) (p : Opened) → cond b (cond c (unless_broken groups (replayed nothing_logged groups.payloads)) (failed 0)) (Ok nothing_logged) ≡ Ok p
+    → replayed nothing_logged (cond b groups.payloads []) ≡ Ok p
+old_log true true groups p is = if_unbroken groups _ p is
+old_log true false groups p is = absurd (cc)
+old_log false c groups p is = is
+
+pub old_gives : (old : List ℕ) (p : Opened) → opened_of old ≡ Ok p → replayed nothing_logged (texts_at old) ≡ Ok p
+old_gives old p is = old_log (is_born old) (is_open old && epoch_of old == 1) (groups_of old) p is
+
+-- the sessions of its commits are sessions
+one_session : (r : Option Opened) (n : ℕ) (ts : List (List ℕ)) (p : Opened) → ((next : Opened) → r ≡ Some next → IfSome next.last IsSession)
+    → ((next : Opened) → replayed next ts ≡ Ok p → IfSome next.last IsSession → IfSome p.last IsSession) → goes_on r n ts ≡ Ok p → IfSome p.last IsSession
+one_session (Some next) n ts p session go is = go next is (session next refl)
+one_session None n ts p session go is = absurd (cc)
+
+made_session : (n : ℕ) (out : Outcome) (next : Opened) → IsSession n → if_made n out ≡ Some next → IfSome next.last IsSession
+made_session n out next session is = by_commit (is_commit out.reply) is
+  where
+    by_commit : (b : Bool) → cond b (Some (record { last = Some n; database = out.database })) None ≡ Some next → IfSome next.last IsSession
+    by_commit true e = subst (λ (o : Opened). IfSome o.last IsSession) (same_Some _ _ e) session
+    by_commit false e = absurd (cc)
+
+redone_session : (o : Opened) (text : List ℕ) (next : Opened) → IfSome o.last IsSession → redone o text ≡ Some next → IfSome next.last IsSession
+redone_session o text next before is =
+    let found = bind_some (commit_of o.last text) (λ c. if_made c.session (executed o.database c.statement)) next is in
+    made_session found.0.session (executed o.database found.0.statement) next (commit_lawful o.last text found.0 before found.1).0 found.2
+
+pub last_session : (ts : List (List ℕ)) (o p : Opened) → IfSome o.last IsSession → replayed o ts ≡ Ok p → IfSome p.last IsSession
+last_session [] o p before is = subst (λ (x : Opened). IfSome x.last IsSession) (same_Ok o p is) before
+last_session (t ∷ ts) o p before is =
+    one_session (redone o t) (o.database.commits + 1) ts p (λ next. redone_session o t next before) (λ next made session. last_session ts next p session made) is
+
+-- and a whole log gives what its texts give
+pub whole_gives : (new : List ℕ) (ts : List (List ℕ)) (p : Opened) → IsWholeLog new ts → replayed nothing_logged ts ≡ Ok p → opened_of new ≡ Ok p
+whole_gives new ts p log is = grind (arith, log.born, log.opened, log.epoch, log.groups, is)
+
+pub reopened : (old new : List ℕ) (opened : Opened) (input : List ℕ) → opened_of old ≡ Ok opened → IsWholeLog new (texts_at old ++ texts_from opened input) → opened_of new ≡ Ok (ended_with opened input)
+reopened old new opened input is log =
+    let before = old_gives old opened is in
+    let session = last_session (texts_at old) nothing_logged opened tt before in
+    whole_gives new (texts_at old ++ texts_from opened input) (ended_with opened input) log
+    (replayed_on (texts_at old) (texts_from opened input) nothing_logged opened before ∙ run_remade (items 1 input) (begun_with opened) (record { few = omega arith; last = session }))

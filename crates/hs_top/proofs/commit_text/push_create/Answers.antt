@@ -1,0 +1,6 @@
+use Rattle.std.proofs.Common.{codes}
+use Rattle.hs_top.proofs.Pushed.{line_pushed}
+use Rattle.hs_top.proofs.commit_text.push_create.Goals as goal
+
+pub returns : goal.returns
+returns c = line_pushed _ _ _ _ (codes "CREATE MEMORY TABLE ") _ _ (codes "(") _ (codes ")\n") c.in_ok-write.ensures.bytes c.as_str-table.ensures c.in_ok-push_columns.ensures c.in_ok-push_str.ensures.bytes

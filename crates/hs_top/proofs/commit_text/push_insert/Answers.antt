@@ -1,0 +1,6 @@
+use Rattle.std.proofs.Common.{codes}
+use Rattle.hs_top.proofs.Pushed.{line_pushed}
+use Rattle.hs_top.proofs.commit_text.push_insert.Goals as goal
+
+pub returns : goal.returns
+returns c = line_pushed _ _ _ _ (codes "INSERT INTO ") _ _ (codes " VALUES(") _ (codes ")\n") c.in_ok-write.ensures.bytes c.as_str-table.ensures c.in_ok-push_values.ensures c.in_ok-push_str.ensures.bytes

@@ -1,0 +1,14 @@
+use Rattle.std.proofs.Common.{◌≡◌, List, ℕ, Err, sym, ap, subst, ◌∙◌}
+use Rattle.hs_host.specs.Files.{Five, IsHonest}
+use Rattle.hs_top.specs.declared.status.Status.TheVariants.{Damaged}
+use Rattle.hs_top.specs.Opening.{replayed, nothing_logged, IsDamageOf}
+use Rattle.hs_top.specs.Running.{texts_in}
+use Rattle.hs_top.proofs.Replayed.{damage_is}
+use Rattle.hs_top.proofs.opening.read_log.Goals as goal
+
+pub returns-in-Err-clause-damaged : goal.returns-in-Err-clause-damaged
+returns-in-Err-clause-damaged g c = λ told honest damage is.
+    let after : IsHonest (g.H.Host.standing c.front.new.host) = subst IsHonest (sym c.in_ok-front.ensures.standing) honest in
+    let status : c.in-Err.status ≡ Damaged damage = cc in
+    damage_is (g.H.Host.files c.args.host.now).log c.in-Some.front damage (c.requires.born told honest) (sym c.in-Some.is ∙ c.in_ok-front.ensures.reading told honest) c.if-front-ne1.false
+    (subst (λ (f : Five (List ℕ)). IsDamageOf (replayed nothing_logged (texts_in f)) damage) (c.in_ok-front.ensures.files told honest) (c.in-Err.ensures.damaged told after damage (ap Err status)))

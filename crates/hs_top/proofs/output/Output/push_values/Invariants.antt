@@ -1,9 +1,0 @@
-use Rattle.std.proofs.Common.{◌≡◌, ◌++◌, length}
-use Rattle.hs_top.specs.Lines.{row_text}
-use Rattle.hs_top.proofs.output.Output.push_values.Given as goal
-
-abbrev pub invariant-loop-value : goal.invariant-loop-value
-invariant-loop-value l = l.self ++ row_text l.rest ≡ l.fn.self ++ row_text l.fn.row
-
-abbrev pub decreases-loop-value : goal.decreases-loop-value
-decreases-loop-value l = length l.rest

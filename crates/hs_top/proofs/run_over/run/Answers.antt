@@ -1,0 +1,66 @@
+use Rattle.std.proofs.Common.{◌≡◌, ◌⊎◌, ◌++◌, ℕ, Bool, List, IsTrue, inl, inr, Ok, Err, length, sym, ap, subst, ◌∙◌, arith}
+use Rattle.hs_host.specs.Files.{Five, IsHonest}
+use Rattle.hs_host.specs.Host.{Rose}
+use Rattle.hs_top.specs.declared.damage.Damage.{Damage}
+use Rattle.hs_top.specs.declared.damage.Damage.TheVariants.{Log}
+use Rattle.hs_top.specs.declared.status.Status.TheVariants.{NoMemory, InputTooLong, Damaged}
+use Rattle.hs_top.specs.Opening.{Opened, opened_of, texts_at, texts_from, IsWholeLog, IsDamageOf}
+use Rattle.hs_top.proofs.Endings.{ended_as}
+use Rattle.hs_top.proofs.Reopened.{reopened}
+use Rattle.hs_top.proofs.run_over.run.Goals as goal
+use Rattle.hs_top.proofs.run_over.run.Goals.{After-serve}
+
+-- mounting changes neither the files nor whether they are read honestly
+still : (g : _) (c : After-serve g) → IsHonest (g.H.Host.standing c.args.host.now) → IsHonest (g.H.Host.standing c.mount.new.host)
+still g c honest = subst (λ (b : Bool). IsTrue b) (sym c.mount.ensures.honest) honest
+
+same_log : (g : _) (c : After-serve g) → g.H.Source.tells → (g.H.Host.files c.mount.new.host).log ≡ (g.H.Host.files c.args.host.now).log
+same_log g c told = ap (λ (f : Five (List ℕ)). f.log) (c.mount.ensures.files told)
+
+pub returns-in-Ok-clause-log : goal.returns-in-Ok-clause-log
+returns-in-Ok-clause-log g c = λ told honest opened is same.
+    let at = (goal.at.returns-in-Ok-clause-log g c).After-serve in
+    let log = (g.H.Host.files c.serve.new.host).log in
+    subst (λ (old : List ℕ). IsWholeLog log (texts_at old ++ texts_from opened (g.H.Source.unread c.args.host.now))) (same_log g at told)
+    (subst (λ (input : List ℕ). IsWholeLog log (texts_at (g.H.Host.files c.mount.new.host).log ++ texts_from opened input)) c.mount.ensures.unread
+    (c.in-Ok.ensures.log told (still g at honest) opened (ap opened_of (same_log g at told) ∙ is)))
+
+pub returns-in-Ok-clause-reopens : goal.returns-in-Ok-clause-reopens
+returns-in-Ok-clause-reopens g c = λ told honest opened is same.
+    reopened (g.H.Host.files c.args.host.now).log (g.H.Host.files c.serve.new.host).log opened (g.H.Source.unread c.args.host.now) is (returns-in-Ok-clause-log g c told honest opened is same)
+
+-- what is wrong with the log is what was found
+found : (g : _) (c : After-serve g) → g.H.Source.tells → IsHonest (g.H.Host.standing c.args.host.now) → (damage : Damage) → c.serve.result ≡ Err (Damaged damage)
+    → IsDamageOf (opened_of (g.H.Host.files c.args.host.now).log) damage
+found g c told honest damage is =
+    subst (λ (log : List ℕ). IsDamageOf (opened_of log) damage) (same_log g c told) (c.serve.ensures.damaged told (still g c honest) damage is)
+
+pub returns-in-Err-serve-clause-damaged : goal.returns-in-Err-serve-clause-damaged
+returns-in-Err-serve-clause-damaged g c = λ told honest number is.
+    found g (goal.at.returns-in-Err-serve-clause-damaged g c).After-serve told honest (Log number) (c.in-Err-serve.is ∙ ap Err is)
+
+-- without a fault of a device the run was too long, or memory was wanted
+ends : (g : _) (c : After-serve g) (opened : Opened) → (status : _) → c.serve.result ≡ Err status → g.H.Source.tells → IsHonest (g.H.Host.standing c.args.host.now)
+    → (Rose (g.H.Source.input_faults c.args.host.now) (g.H.Source.input_faults c.serve.new.host) → ⊥)
+    → (Rose (g.H.Host.output_faults c.args.host.now) (g.H.Host.output_faults c.serve.new.host) → ⊥)
+    → (Rose (g.H.Host.disk_faults c.args.host.now) (g.H.Host.disk_faults c.serve.new.host) → ⊥)
+    → opened_of (g.H.Host.files c.args.host.now).log ≡ Ok opened
+    → (status ≡ InputTooLong) ⊎ (status ≡ NoMemory)
+ends g c opened status failed told honest input output disk is =
+    ended_as _ (opened_of (g.H.Host.files c.args.host.now).log) opened status is
+    (λ e. elim e [ inl d ↦ c.serve.ensures.only (inl (failed ∙ d)) | inr u ↦ c.serve.ensures.only (inr (failed ∙ u)) ])
+    (λ e. input (omega (arith, c.serve.ensures.input_fault (failed ∙ e), c.mount.ensures.input_faults)))
+    (λ e. output (omega (arith, c.serve.ensures.output_fault (failed ∙ e), c.mount.ensures.output_faults)))
+    (λ e. disk (omega (arith, c.serve.ensures.disk_fault (failed ∙ e), c.mount.ensures.disk_later)))
+    (λ damage e. found g c told honest damage (failed ∙ e))
+
+pub returns-in-Err-serve-clause-complete : goal.returns-in-Err-serve-clause-complete
+returns-in-Err-serve-clause-complete g c = λ told honest own named input output disk opened is short.
+    elim (ends g (goal.at.returns-in-Err-serve-clause-complete g c).After-serve opened c.in-Err-serve.status c.in-Err-serve.is told honest input output disk is) [
+      | inl long ↦ absurd (omega (arith, short, c.serve.ensures.too_long told (c.in-Err-serve.is ∙ ap Err long), ap length c.mount.ensures.unread))
+      | inr memory ↦ inr memory
+    ]
+
+pub returns-in-Err-serve-clause-complete_too_long : goal.returns-in-Err-serve-clause-complete_too_long
+returns-in-Err-serve-clause-complete_too_long g c = λ told honest own named input output disk opened is long.
+    ends g (goal.at.returns-in-Err-serve-clause-complete_too_long g c).After-serve opened c.in-Err-serve.status c.in-Err-serve.is told honest input output disk is

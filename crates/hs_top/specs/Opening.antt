@@ -1,0 +1,95 @@
+-- What a run begins with: what its log gives.
+use Rattle.std.specs.Prelude.{◌≡◌, ℕ, ◌+◌, true, ◌==◌, ◌&&◌, if◌then◌else◌, List, [], ◌∷◌, length, Option, None, Some, Result, Ok, Err}
+use Rattle.hs_entries.specs.Items.{items}
+use Rattle.hs_gate.specs.Groups.{Groups, groups_of, is_born, is_open, epoch_of, whole, end_of}
+use Rattle.hs_top.specs.declared.damage.Damage.{Damage}
+use Rattle.hs_top.specs.declared.damage.Damage.TheVariants.{Foreign, Log}
+use Rattle.hs_top.specs.declared.database.Database.{Database}
+use Rattle.hs_top.specs.declared.opening.Opening.{Opening}
+use Rattle.hs_top.specs.CommitText.{commit_of}
+use Rattle.hs_top.specs.Database.{new_database, executed, Outcome}
+use Rattle.hs_top.specs.Machine.{State, begun, is_commit, machine, transcript, steps, turns_left, texts_of}
+use Rattle.hs_top.specs.Statement.{◌>>=◌}
+
+-- the session of the last commit, none where there is none, and the database
+pub record Opened : Type 0 where
+  pub last : Option ℕ
+  pub database : Database
+
+abbrev pub nothing_logged : Opened
+nothing_logged = record { last = None; database = new_database }
+
+-- a commit was made, or else none
+abbrev pub if_made : ℕ → Outcome → Option Opened
+if_made session outcome = if is_commit outcome.reply then Some (record { last = Some session; database = outcome.database }) else None
+
+-- What the text of a commit makes of this. It makes nothing where it isn't the text of a commit, or the
+-- statement doesn't commit on the database.
+abbrev pub redone : Opened → List ℕ → Option Opened
+redone opened text = commit_of opened.last text >>= λ c. if_made c.session (executed opened.database c.statement)
+
+-- What texts make of this one after another, or the number of the first that makes nothing, before which
+-- as many groups stand as there are commits.
+abbrev pub replayed : Opened → List (List ℕ) → Result Opened ℕ
+replayed opened [] = Ok opened
+replayed opened (text ∷ texts) = elim (redone opened text) [
+  | Some next ↦ replayed next texts
+  | None ↦ Err (opened.database.commits + 1)
+]
+
+-- a broken group behind them is one that makes nothing
+abbrev pub unless_broken : Groups → Result Opened ℕ → Result Opened ℕ
+unless_broken groups (Err number) = Err number
+unless_broken groups (Ok opened) = if groups.is_broken then Err (length groups.payloads + 1) else Ok opened
+
+-- What a log gives: nothing where it isn't born, and else its commits. An error is the number of the first
+-- group that is broken or makes nothing, and 0 where a born log isn't open with epoch 1.
+abbrev pub opened_of : List ℕ → Result Opened ℕ
+opened_of log =
+    if is_born log then
+    if is_open log && epoch_of log == 1 then unless_broken (groups_of log) (replayed nothing_logged (groups_of log).payloads) else Err 0
+    else Ok nothing_logged
+
+-- the texts of its commits
+abbrev pub texts_at : List ℕ → List (List ℕ)
+texts_at log = if is_born log then (groups_of log).payloads else []
+
+abbrev pub begun_with : Opened → State
+begun_with opened = begun opened.last opened.database
+
+-- what the code begins with
+abbrev pub opened_by : Opening → Opened
+opened_by o = record { last = o.log.last; database = o.database }
+
+-- the damage is that of the log
+abbrev pub IsDamageOf : Result Opened ℕ → Damage → Type 0
+IsDamageOf right Foreign = ⊥
+IsDamageOf right (Log number) = right ≡ Err number
+
+-- all that a run writes over what its log gives
+abbrev pub shown : Result Opened ℕ → List ℕ → List ℕ
+shown (Ok opened) input = transcript (begun_with opened) input
+shown (Err number) input = []
+
+-- the texts of all commits that a run makes
+abbrev pub texts_from : Opened → List ℕ → List (List ℕ)
+texts_from opened input = texts_of (machine (items 1 input) (begun_with opened))
+
+-- what the log of a run would give that is in a state
+abbrev pub opened_at : State → Opened
+opened_at s = record { last = s.last; database = s.database }
+
+-- what it gives when the run has ended
+abbrev pub ended_with : Opened → List ℕ → Opened
+ended_with opened input =
+    let m = machine (items 1 input) (begun_with opened) in
+    opened_at (steps (turns_left m) m).state
+
+-- a log that is born and open with epoch 1, whose groups are these texts, and behind whose groups nothing
+-- stands but one gate that isn't open
+pub record IsWholeLog (bytes : List ℕ) (texts : List (List ℕ)) : Type 0 where
+  pub born : is_born bytes ≡ true
+  pub opened : is_open bytes ≡ true
+  pub epoch : epoch_of bytes ≡ 1
+  pub groups : groups_of bytes ≡ whole texts
+  pub last : length bytes ≡ end_of texts + 1

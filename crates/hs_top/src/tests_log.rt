@@ -1,0 +1,168 @@
+// The log of a run: what it holds, what is read of it, and what its faults do.
+use crate::damage::Damage;
+use crate::run;
+use crate::status::Status;
+use crate::tests_support::{shown, words};
+use hs_host::FileKind;
+use hs_memhost::{CallList, Images, MemHost};
+use hs_values::Bytes;
+use std::alloc::{AllocError, Global};
+use std::test::Fail;
+
+const FIRST: &[u8] =
+    b"a: CREATE TABLE T (N BIGINT, M BIGINT);a: INSERT INTO T VALUES (2,5);a: INSERT INTO T VALUES (1,-7);a: SELECT * FROM T;a: SELECT * FROM U;a: CREATE TABLE T (N BIGINT);a: COMMIT;";
+
+// The log that the first example leaves, and what is read of it.
+#[test]
+fn the_database_is_kept(rt: HostRuntime) -> Result<(), Fail> {
+    let alloc = rt.alloc();
+    let first = shown(alloc, FIRST, 100_000, b"", &[])?;
+    assert_eq!(rt; first.status, Status::Done);
+    let wanted =
+        "opened at 0/1 a: ok committed 1/2 a: ok 1 row committed 2/3 a: ok 1 row committed 3/4 a: row 1,-7/4 a: row 2,5/4 a: ok 2 rows/5 a: refused no such U/6 a: refused exists T/7 a: refused not built/closed at 3/";
+    assert_eq!(rt; first.text.as_slice(), wanted.as_bytes());
+
+    let mut log = Vec::new(alloc);
+    log.extend_from_slice(&[1, 1, 0, 0, 0, 0, 0, 0, 0, 1])?;
+    log.extend_from_slice(&[1, 0, 0, 0, 0, 0, 0, 0, 55])?;
+    log.extend_from_slice(b"/*C1*/\nCREATE MEMORY TABLE T(N BIGINT,M BIGINT)\nCOMMIT\n")?;
+    log.extend_from_slice(&[1, 0, 0, 0, 0, 0, 0, 0, 33])?;
+    log.extend_from_slice(b"INSERT INTO T VALUES(2,5)\nCOMMIT\n")?;
+    log.extend_from_slice(&[1, 0, 0, 0, 0, 0, 0, 0, 34])?;
+    log.extend_from_slice(b"INSERT INTO T VALUES(1,-7)\nCOMMIT\n")?;
+    log.push(0)?;
+    assert_eq!(rt; first.log.as_slice(), log.as_slice());
+    assert_eq!(rt; log.len(), 160);
+
+    let next = shown(alloc, b"b: SELECT * FROM T;", 100_000, &first.log, &[])?;
+    assert_eq!(rt; next.status, Status::Done);
+    let wanted = "opened at 3/1 b: row 1,-7/1 b: row 2,5/1 b: ok 2 rows/closed at 3/";
+    assert_eq!(rt; next.text.as_slice(), wanted.as_bytes());
+    assert_eq!(rt; next.log.as_slice(), log.as_slice());
+    Ok(())
+}
+
+// A log of two commits, by two sessions.
+const TWO: &[u8] = b"a: CREATE TABLE T (N BIGINT);b: INSERT INTO T VALUES (7);";
+
+// What is read of it where one byte is 0, 1, 7 and 255, and where it is cut: `.` is a new database, a
+// digit is how many commits it opens at, and a letter the first damaged group, `a` for group 0.
+const CHANGED: [(u8, &str); 4] = [
+    (
+        0,
+        ".a2222222a02222222bbbbbbbbbbbbbbbbbbbbbbbbbbbbbbbbbbbbbbbbbbbbbbb12222222ccccccccccccccccccccccccccccccccccccccc2",
+    ),
+    (
+        1,
+        "22aaaaaaa22bbbbbbbbbbbbbbbbbbbbbbbbbbbbbbbbbbbbbbbbbbbbbbbbbbbbbb2ccccccccccccccccccccccccccccccccccccccccccccccd",
+    ),
+    (
+        7,
+        ".aaaaaaaaa0bbbbbbbbbbbbbbbbbbbbbbbbbbbbbbbbbbbbbbbbbbbbbbbbbbbbbb1cccccccccccccccccccccccccccccccccccccccccccccc2",
+    ),
+    (
+        255,
+        ".aaaaaaaaa0bbbbbbbbbbbbbbbbbbbbbbbbbbbbbbbbbbbbbbbbbbbbbbbbbbbbbb1cccccccccccccccccccccccccccccccccccccccccccccc2",
+    ),
+];
+
+const CUT: &str =
+    ".aaaaaaaaaabbbbbbbbbbbbbbbbbbbbbbbbbbbbbbbbbbbbbbbbbbbbbbbbbbbbbbbccccccccccccccccccccccccccccccccccccccccccccccc2";
+
+// The letter of how a run over a log ended.
+fn letter(alloc: Global, log: &[u8]) -> Result<u8, AllocError> {
+    let run = shown(alloc, b"", 100_000, log, &[])?;
+    let born = log.first() == Some(&1);
+    Ok(match run.status {
+        Status::Done if !born => b'.',
+        Status::Done if run.text.as_slice() == b"opened at 0/closed at 0/".as_slice() => b'0',
+        Status::Done if run.text.as_slice() == b"opened at 1/closed at 1/".as_slice() => b'1',
+        Status::Done if run.text.as_slice() == b"opened at 2/closed at 2/".as_slice() => b'2',
+        Status::Damaged(Damage::Log(group))
+            if run.text.is_empty() && run.log.as_slice() == log && group < 8 => {
+            b'a' + group as u8
+        }
+        _ => b'?',
+    })
+}
+
+#[test]
+fn damaged_logs(rt: HostRuntime) -> Result<(), Fail> {
+    let alloc = rt.alloc();
+    let log = shown(alloc, TWO, 100_000, b"", &[])?.log;
+    assert_eq!(rt; log.len(), 113);
+    for (value, wanted) in CHANGED {
+        let mut letters = Vec::new(alloc);
+        for place in 0..log.len() {
+            let mut changed = log.clone()?;
+            changed[place] = value;
+            letters.push(letter(alloc, &changed)?)?;
+        }
+        assert_eq!(rt; letters.as_slice(), wanted.as_bytes(), "value {value}");
+    }
+    let mut letters = Vec::new(alloc);
+    for len in 0..log.len() + 1 {
+        letters.push(letter(alloc, &log[..len])?)?;
+    }
+    assert_eq!(rt; letters.as_slice(), CUT.as_bytes());
+    Ok(())
+}
+
+// The calls of the host in a run, by their devices: the disk, the output and the input.
+const CALLS: &str = "DDDDDDDOIDDDDDDDDDDDDOIO";
+
+// How many commits were told in whole lines, at most 2.
+fn told(text: &[u8]) -> u32 {
+    let mut count = 0u32;
+    for line in [b" committed 1/".as_slice(), b" committed 2/".as_slice()] {
+        if text.windows(line.len()).any(|piece| piece == line) {
+            count = count.saturating_add(1);
+        }
+    }
+    count
+}
+
+// Each call fails in turn: the status is that device's, a front of the output is written, and the log that
+// is left opens at a commit, and not before one that was told.
+#[test]
+fn failing_calls(rt: HostRuntime) -> Result<(), Fail> {
+    let alloc = rt.alloc();
+    let whole = shown(alloc, TWO, 100_000, b"", &[])?;
+    for (call, device) in CALLS.bytes().enumerate() {
+        let run = shown(alloc, TWO, 100_000, b"", &[call as u64])?;
+        let wanted = match device {
+            b'D' => Status::DiskFault,
+            b'O' => Status::OutputFault,
+            _ => Status::InputFault,
+        };
+        assert_eq!(rt; run.status, wanted, "at call {call}");
+        assert!(rt; whole.text.starts_with(&run.text), "at call {call}");
+        let again = shown(alloc, b"", 100_000, &run.log, &[])?;
+        assert_eq!(rt; again.status, Status::Done, "at call {call}");
+        let opened = match again.text.get(10) {
+            Some(digit) => u32::from(*digit).saturating_sub(48),
+            None => 9,
+        };
+        assert!(rt; told(&run.text) <= opened && opened <= 2, "at call {call}");
+    }
+    let past = CALLS.len() as u64;
+    let run = shown(alloc, TWO, 100_000, b"", &[past])?;
+    assert_eq!(rt; run.status, Status::Done);
+    Ok(())
+}
+
+// Files of another program: nothing is changed and nothing written.
+#[test]
+fn foreign_files(rt: HostRuntime) -> Result<(), Fail> {
+    let alloc = rt.alloc();
+    let mut files = Images::new(alloc);
+    files.log = Bytes::from_vec(b"their log".to_vec(alloc)?);
+    let input = Bytes::from_vec(TWO.to_vec(alloc)?);
+    let mut host = MemHost::new(alloc, input, files, true, CallList::new(alloc));
+    let status = run(alloc, &words(alloc, &["hsql", "db"])?, &mut host);
+    assert_eq!(rt; status, Status::Damaged(Damage::Foreign));
+    assert_eq!(rt; host.output(), b"".as_slice());
+    assert_eq!(rt; host.image(FileKind::Log), b"their log".as_slice());
+    assert_eq!(rt; host.image(FileKind::Script0), b"".as_slice());
+    Ok(())
+}
