@@ -8,6 +8,7 @@ use hs_host::{FileKind, Host};
 use hs_memhost::{CallList, Images, MemHost};
 use hs_values::Bytes;
 use std::alloc::Global;
+use std::process::Abort;
 use std::test::Fail;
 
 // A birth byte, an open header gate, epoch 1, a group `A`, an empty group, a closed gate.
@@ -165,6 +166,9 @@ fn adds_groups(rt: HostRuntime) -> Result<(), Fail> {
     expected.extend_from_slice(FIRST)?;
     expected.extend_from_slice(b"\x01\0\0\0\0\0\0\0\x22")?;
     expected.extend_from_slice(SECOND)?;
+    log.append(&mut host, &[65; 300])?;
+    expected.extend_from_slice(b"\x01\0\0\0\0\0\0\x01\x2c")?;
+    expected.extend_from_slice(&[65; 300])?;
     expected.push(0)?;
     assert_eq!(rt; host.image(FileKind::Log), expected.as_slice());
     log.settle(&mut host)?;
@@ -212,19 +216,27 @@ fn starts_anew(rt: HostRuntime) -> Result<(), Fail> {
     Ok(())
 }
 
+// Of a new file: adding this group with this call failing.
+fn append_fails(rt: &impl Abort, alloc: Global, payload: &[u8], call: u64) -> Result<(), Fail> {
+    let failing = CallList::from_vec([call].to_vec(alloc)?);
+    let mut host = opened(alloc, Vec::new(alloc), failing)?;
+    let mut log = Gated::create(&mut host, FileKind::Log)?;
+    assert_eq!(rt;
+        log.append(&mut host, payload),
+        Err(GateFault::Disk),
+        "call {call}"
+    );
+    assert_eq!(rt; (log.groups, log.end), (0, 10));
+    Ok(())
+}
+
 #[test]
 fn each_call_of_an_append_may_fail(rt: HostRuntime) -> Result<(), Fail> {
-    let alloc = rt.alloc();
+    for call in 6..10 {
+        append_fails(&rt, rt.alloc(), b"a", call)?;
+    }
     for call in 6..12 {
-        let failing = CallList::from_vec([call].to_vec(alloc)?);
-        let mut host = opened(alloc, Vec::new(alloc), failing)?;
-        let mut log = Gated::create(&mut host, FileKind::Log)?;
-        assert_eq!(rt;
-            log.append(&mut host, b"a"),
-            Err(GateFault::Disk),
-            "call {call}"
-        );
-        assert_eq!(rt; (log.groups, log.end), (0, 10));
+        append_fails(&rt, rt.alloc(), &[65; 300], call)?;
     }
     Ok(())
 }

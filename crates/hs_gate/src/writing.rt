@@ -1,12 +1,16 @@
 // Writes that are brought to the disk.
-ghost use Rattle.std.specs.Prelude.{◌≡◌, ℕ, ◌+◌, ◌^◌, ◌<◌, ◌≤◌, List, [], ◌∷◌, ◌++◌, length, take, OnOk};
+ghost use Rattle.std.specs.Prelude.{◌≡◌, ℕ, ◌+◌, ◌^◌, ◌<◌, ◌≤◌, List, [], ◌∷◌, ◌++◌, length, take, IfOk, OnOk};
 ghost use Rattle.hs_host.specs.Files.{of, with_, overwrite, IsOpen, IsHonest};
 ghost use Rattle.hs_gate.specs.Faults.{HasGateCause, IsNeverBroken};
 ghost use Rattle.hs_gate.specs.Changes.{IsOnly};
 ghost use Rattle.hs_gate.specs.Groups.{eight_bytes};
 
 use crate::gate_fault::GateFault;
+use arrayvec::{ArrayVec, CapacityError};
 use hs_host::{FileKind, Host};
+
+/// As many bytes as are put together and written at once.
+const SMALL_BYTES: usize = 256;
 
 /// Writes bytes, and syncs them.
 pub fn write_synced<H: Host>(
@@ -59,7 +63,18 @@ pub fn replace_from<H: Host>(
     Ok(())
 }
 
-/// Writes the length of a payload, the payload and a closed gate, and syncs them.
+/// A payload behind its length and in front of a closed gate, where these are at most 256 bytes.
+fn small_group(payload: &[u8]) -> Result<ArrayVec<u8, SMALL_BYTES>, CapacityError>
+    ensures { IfOk result (λ bytes. bytes.items ≡ eight_bytes (length payload.now) ++ payload.now ++ 0 ∷ []) }
+{
+    let mut bytes = ArrayVec::new();
+    bytes.try_extend_from_slice(&(payload.len() as u64).to_be_bytes())?;
+    bytes.try_extend_from_slice(payload)?;
+    bytes.try_extend_from_slice(&[0])?;
+    Ok(bytes)
+}
+
+/// Writes the length of a payload, the payload and a closed gate, at once where they are few bytes, and syncs them.
 pub fn write_payload<H: Host>(
     host: &mut H,
     file: FileKind,
@@ -79,6 +94,9 @@ pub fn write_payload<H: Host>(
     ensures output { H.written host.new ≡ H.written host.old }
     ensures output_faults { H.output_faults host.new ≡ H.output_faults host.old }
 {
+    if let Ok(bytes) = small_group(payload) {
+        return write_synced(host, file, at, bytes.as_slice());
+    }
     let size = payload.len() as u64;
     host.write(file, at, &size.to_be_bytes())?;
     host.write(file, at + 8, payload)?;

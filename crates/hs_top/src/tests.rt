@@ -322,7 +322,7 @@ fn replies_come_before_more_input(rt: HostRuntime) -> Result<(), Fail> {
 }
 
 // The order of the calls: the log is made, and of each commit length, payload and a closed gate are
-// written and synced, and then its gate; and only then its reply is written.
+// written and synced, and then its gate is; and only then its reply is written.
 #[test]
 fn commits_are_on_the_disk_before_they_are_told(rt: HostRuntime) -> Result<(), Fail> {
     let alloc = rt.alloc();
@@ -330,7 +330,7 @@ fn commits_are_on_the_disk_before_they_are_told(rt: HostRuntime) -> Result<(), F
     let input = b"a: CREATE TABLE T (N BIGINT);a: INSERT INTO T VALUES (1);a: SELECT * FROM T;";
     let mut host = Noting::new(alloc, host(alloc, input, b"", &[])?);
     assert_eq!(rt; run(alloc, &words, &mut host), Status::Done);
-    let wanted = b"mlwcswsoiwwwswswwwswsoio";
+    let wanted = b"mlwcswsoiwswswswsoio";
     assert_eq!(rt; host.calls.as_slice(), wanted.as_slice());
     Ok(())
 }

@@ -109,7 +109,7 @@ fn damaged_logs(rt: HostRuntime) -> Result<(), Fail> {
 }
 
 // The calls of the host in a run, by their devices: the disk, the output and the input.
-const CALLS: &str = "DDDDDDDOIDDDDDDDDDDDDOIO";
+const CALLS: &str = "DDDDDDDOIDDDDDDDDOIO";
 
 // How many commits were told in whole lines, at most 2.
 fn told(text: &[u8]) -> u32 {

@@ -21,7 +21,7 @@ returns-clause-ok g c = λ told honest.
     c.in_ok-write.ensures.ok told honest ∙ ap (λ (l : List ℕ). with_ old file (overwrite (of old file) at l)) c.to_be_bytes.ensures in
     let second : g.H.Host.files c.write-2.new.self ≡ with_ old file (overwrite (of old file) at (size ++ payload)) =
     write_on old (g.H.Host.files c.write.new.self) (g.H.Host.files c.write-2.new.self) file at (at + 8) size payload le (omega (arith, length-eight (length payload))) first (c.in_ok-write-2.ensures.ok told honest_1) in
-    on_ok_weaker c.write_synced.result
-    (λ third. write_on old (g.H.Host.files c.write-2.new.self) (g.H.Host.files c.write_synced.new.host) file at (at + 8 + length payload) (size ++ payload) (0 ∷ []) le
+    on_ok_weaker c.write_synced-2.result
+    (λ third. write_on old (g.H.Host.files c.write-2.new.self) (g.H.Host.files c.write_synced-2.new.host) file at (at + 8 + length payload) (size ++ payload) (0 ∷ []) le
     (omega (arith, length-append size payload, length-eight (length payload))) second third)
-    (c.write_synced.ensures.ok told honest_2)
+    (c.write_synced-2.ensures.ok told honest_2)
