@@ -1,0 +1,11 @@
+pub mod Sets
+pub mod Views
+pub mod Theory
+pub mod Work
+pub mod Steps
+pub mod Memory
+pub mod Exact
+pub mod ExpressionTable
+pub mod SettingsTable
+pub mod LeftmostLaw
+pub mod Meaning

@@ -1,0 +1,9 @@
+pub mod Cuts
+pub mod Parts
+pub mod Rounds
+pub mod Steps
+pub mod Found
+pub mod Taken
+pub mod Fronts
+pub mod Slices
+pub mod Sayings
