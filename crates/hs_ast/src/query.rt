@@ -21,7 +21,7 @@ pub struct Limit {
 #[cycle(tree)]
 #[derive(Drop)]
 pub struct Query {
-    /// The place of its first byte. Parentheses round the whole query are no part of it.
+    /// The place of its first word, `SELECT` or `VALUES`: parentheses before it are passed over.
     pub at: u32,
     pub body: QueryBody,
     /// Empty without ORDER BY.
