@@ -1,17 +1,16 @@
 // The texts of the statement log: what each of its groups holds, written and read.
-ghost use Rattle.std.specs.Prelude.{◌≡◌, ◌++◌, [], codes, OnOk, IfOk, IfSome, string_bytes, if◌then◌else◌};
+ghost use Rattle.std.specs.Prelude.{◌≡◌, ◌++◌, [], codes, OnOk, IfOk, IfSome, if◌then◌else◌};
 ghost use Rattle.std.specs.Option.{option_map};
 ghost use Rattle.hs_top.specs.Lines.{joined};
 ghost use Rattle.hs_top.specs.Spelling.{column_text};
 ghost use Rattle.hs_top.specs.declared.statement.Statement.TheVariants.{Create, Insert};
 ghost use Rattle.hs_top.specs.CommitText.{mark, is_of, change_line, commit_text, mark_of, marked_of, change_of, commit_of, IsChange};
 
-use crate::integer::session_number;
+use crate::integer::{push_number, session_number};
 use crate::statement::{Statement, after, digits_len, read_create, read_insert};
 use crate::values::push_values;
 use hs_values::{Bytes, Name, Value};
 use std::alloc::{AllocError, Global};
-use std::fmt::Write;
 
 /// One commit: the number of its session and the statement that it made.
 #[derive(Debug, Drop)]
@@ -19,6 +18,9 @@ pub struct Commit {
     pub session: u32,
     pub statement: Statement,
 }
+
+// As many bytes as the text of a commit is given at first.
+const SHORT_BYTES: usize = 128;
 
 /// The text of a commit, where `before` is the session of the group before it, and none stands before the
 /// first group: a mark of the session, unless it stays the same, the line of the change, and `COMMIT`, each
@@ -31,20 +33,22 @@ pub fn commit_text(
 ) -> Result<Bytes, AllocError>
     ensures { IfOk result (λ text. text ≡ commit_text before session statement.now) }
 {
-    let mut text = String::new(alloc);
+    let mut text = Vec::with_capacity(alloc, SHORT_BYTES)?;
     push_mark(&mut text, before, session)?;
     push_change(&mut text, statement)?;
-    text.push_str("COMMIT\n")?;
-    Ok(Bytes::from_vec(text.into_bytes()))
+    text.extend_from_slice(b"COMMIT\n")?;
+    Ok(Bytes::from_vec(text))
 }
 
-fn push_mark(text: &mut String, before: Option<u32>, session: u32) -> Result<(), AllocError>
-    ensures { OnOk result (string_bytes text.new ≡ string_bytes text.old ++ (if is_of before session then [] else mark session)) }
+fn push_mark(text: &mut Vec<u8>, before: Option<u32>, session: u32) -> Result<(), AllocError>
+    ensures { OnOk result (text.new.items ≡ text.old.items ++ (if is_of before session then [] else mark session)) }
 {
     if is_of(before, session) {
         return Ok(());
     }
-    write!(text, "/*C{session}*/\n")
+    text.extend_from_slice(b"/*C")?;
+    push_number(text, u64::from(session), b'*')?;
+    text.extend_from_slice(b"/\n")
 }
 
 // The group before is one of this session.
@@ -57,8 +61,8 @@ fn is_of(before: Option<u32>, session: u32) -> bool
     }
 }
 
-fn push_change(text: &mut String, statement: &Statement) -> Result<(), AllocError>
-    ensures { OnOk result (string_bytes text.new ≡ string_bytes text.old ++ change_line statement.now) }
+fn push_change(text: &mut Vec<u8>, statement: &Statement) -> Result<(), AllocError>
+    ensures { OnOk result (text.new.items ≡ text.old.items ++ change_line statement.now) }
 {
     match statement {
         Statement::Create { table, columns } => push_create(text, table, columns.as_slice()),
@@ -67,36 +71,38 @@ fn push_change(text: &mut String, statement: &Statement) -> Result<(), AllocErro
     }
 }
 
-fn push_create(text: &mut String, table: &Name, columns: &[Name]) -> Result<(), AllocError>
-    ensures { OnOk result (string_bytes text.new ≡ string_bytes text.old ++ change_line (Create table.now columns.now)) }
+fn push_create(text: &mut Vec<u8>, table: &Name, columns: &[Name]) -> Result<(), AllocError>
+    ensures { OnOk result (text.new.items ≡ text.old.items ++ change_line (Create table.now columns.now)) }
 {
-    let table = table.as_str();
-    write!(text, "CREATE MEMORY TABLE {table}(")?;
+    text.extend_from_slice(b"CREATE MEMORY TABLE ")?;
+    text.extend_from_slice(table.as_str().as_bytes())?;
+    text.extend_from_slice(b"(")?;
     push_columns(text, columns)?;
-    text.push_str(")\n")?;
+    text.extend_from_slice(b")\n")?;
     Ok(())
 }
 
-fn push_insert(text: &mut String, table: &Name, row: &[Value]) -> Result<(), AllocError>
-    ensures { OnOk result (string_bytes text.new ≡ string_bytes text.old ++ change_line (Insert table.now row.now)) }
+fn push_insert(text: &mut Vec<u8>, table: &Name, row: &[Value]) -> Result<(), AllocError>
+    ensures { OnOk result (text.new.items ≡ text.old.items ++ change_line (Insert table.now row.now)) }
 {
-    let table = table.as_str();
-    write!(text, "INSERT INTO {table} VALUES(")?;
+    text.extend_from_slice(b"INSERT INTO ")?;
+    text.extend_from_slice(table.as_str().as_bytes())?;
+    text.extend_from_slice(b" VALUES(")?;
     push_values(text, row)?;
-    text.push_str(")\n")?;
+    text.extend_from_slice(b")\n")?;
     Ok(())
 }
 
 // The columns of a table, with a comma between them.
-fn push_columns(text: &mut String, columns: &[Name]) -> Result<(), AllocError>
-    ensures { OnOk result (string_bytes text.new ≡ string_bytes text.old ++ joined column_text (codes ",") columns.now) }
+fn push_columns(text: &mut Vec<u8>, columns: &[Name]) -> Result<(), AllocError>
+    ensures { OnOk result (text.new.items ≡ text.old.items ++ joined column_text (codes ",") columns.now) }
 {
     let mut rest = columns;
     while let Some((column, more)) = rest.split_first() {
-        text.push_str(column.as_str())?;
-        text.push_str(" BIGINT")?;
+        text.extend_from_slice(column.as_str().as_bytes())?;
+        text.extend_from_slice(b" BIGINT")?;
         if !more.is_empty() {
-            text.push(',')?;
+            text.push(b',')?;
         }
         rest = more;
     }

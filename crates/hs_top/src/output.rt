@@ -3,31 +3,30 @@ ghost use Rattle.std.specs.Prelude.{◌≡◌, ◌++◌, [], length, codes, OnOk
 ghost use Rattle.std.specs.Fmt.{decimal};
 ghost use Rattle.hs_top.specs.Lines.{line, row_text, count_text, committed_text, text_or_nothing, refusal_text, reply_line, opened_line, closed_line};
 
+use crate::integer::push_number;
 use crate::refusal::Refusal;
 use crate::reply::Reply;
 use crate::values::push_values;
 use hs_values::Value;
 use std::alloc::{AllocError, Global};
-use std::fmt::Write;
 use std::marker::Model;
 
 /// Output that is gathered and not yet handed over, which contracts see as its bytes. After an `Err`,
 /// which is want of memory, what is gathered may end with the front of a line.
 #[derive(Drop)]
 pub struct Output {
-    text: String,
+    text: Vec<u8>,
 }
 
 impl Model for Output {
     ghost use Rattle.std.specs.Prelude.{List, ℕ};
     ghost use Rattle.std.specs.Coded.{coded_list, coded_ℕ};
-    ghost use Rattle.std.specs.String.{string_bytes};
 
     ghost Value = { List ℕ };
 
     ghost coded = { coded_list coded_ℕ };
 
-    ghost view = { λ o. string_bytes o.text };
+    ghost view = { λ o. o.text.items };
 }
 
 impl Output {
@@ -36,14 +35,14 @@ impl Output {
         ensures { result ≡ [] }
     {
         Output {
-            text: String::new(alloc),
+            text: Vec::new(alloc),
         }
     }
 
     pub fn as_bytes(&self) -> &[u8]
         ensures { result.now ≡ self.now }
     {
-        self.text.as_bytes()
+        &self.text
     }
 
     pub fn len(&self) -> usize
@@ -63,23 +62,26 @@ impl Output {
     pub fn push_opened(&mut self, commits: u64) -> Result<(), AllocError>
         ensures { OnOk result (self.new ≡ self.old ++ opened_line commits) }
     {
-        write!(self.text, "opened at {commits}\n")
+        self.push(b"opened at ")?;
+        push_number(&mut self.text, commits, b'\n')
     }
 
     /// The last line of a run.
     pub fn push_closed(&mut self, commits: u64) -> Result<(), AllocError>
         ensures { OnOk result (self.new ≡ self.old ++ closed_line commits) }
     {
-        write!(self.text, "closed at {commits}\n")
+        self.push(b"closed at ")?;
+        push_number(&mut self.text, commits, b'\n')
     }
 
     /// The line of one row of the answer to item `number` of a session.
     pub fn push_row(&mut self, number: u64, session: &str, row: &[Value]) -> Result<(), AllocError>
         ensures { OnOk result (self.new ≡ self.old ++ line number session.now (codes "row " ++ row_text row.now)) }
     {
-        write!(self.text, "{number} {session}: row ")?;
+        self.push_item(number, session)?;
+        self.push(b": row ")?;
         push_values(&mut self.text, row)?;
-        self.text.push('\n')
+        self.push_end()
     }
 
     /// The line of the reply to item `number` of a session.
@@ -108,28 +110,44 @@ impl Output {
     ) -> Result<(), AllocError>
         ensures { OnOk result (self.new ≡ self.old ++ line number session.now (codes "ok" ++ text_or_nothing count_text count ++ text_or_nothing committed_text committed)) }
     {
-        write!(self.text, "{number} {session}: ok")?;
+        self.push_item(number, session)?;
         self.push_count(count)?;
-        self.push_committed(committed)?;
-        self.text.push('\n')
+        self.push_committed(committed)
     }
 
+    // An item's number and its session.
+    fn push_item(&mut self, number: u64, session: &str) -> Result<(), AllocError>
+        ensures { OnOk result (self.new ≡ self.old ++ (decimal number ++ codes " " ++ session.now)) }
+    {
+        push_number(&mut self.text, number, b' ')?;
+        self.push(session.as_bytes())
+    }
+
+    #[tactic(auto, using(crate::proofs::Pushed::one_counted))]
     fn push_count(&mut self, count: Option<u64>) -> Result<(), AllocError>
-        ensures { OnOk result (self.new ≡ self.old ++ text_or_nothing count_text count) }
+        ensures { OnOk result (self.new ≡ self.old ++ (codes ": ok" ++ text_or_nothing count_text count)) }
     {
         match count {
-            Some(n) if n == 1 => write!(self.text, " {n} row"),
-            Some(n) => write!(self.text, " {n} rows"),
-            None => Ok(()),
+            Some(1) => self.push(b": ok 1 row"),
+            Some(n) => {
+                self.push(b": ok ")?;
+                push_number(&mut self.text, n, b' ')?;
+                self.push(b"rows")
+            }
+            None => self.push(b": ok"),
         }
     }
 
+    // The number of a commit, and the end of the line.
     fn push_committed(&mut self, committed: Option<u64>) -> Result<(), AllocError>
-        ensures { OnOk result (self.new ≡ self.old ++ text_or_nothing committed_text committed) }
+        ensures { OnOk result (self.new ≡ self.old ++ (text_or_nothing committed_text committed ++ codes "\n")) }
     {
         match committed {
-            Some(n) => write!(self.text, " committed {n}"),
-            None => Ok(()),
+            Some(n) => {
+                self.push(b" committed ")?;
+                push_number(&mut self.text, n, b'\n')
+            }
+            None => self.push_end(),
         }
     }
 
@@ -141,21 +159,41 @@ impl Output {
     ) -> Result<(), AllocError>
         ensures { OnOk result (self.new ≡ self.old ++ line number session.now (codes "refused " ++ refusal_text refusal.now)) }
     {
-        write!(self.text, "{number} {session}: refused ")?;
+        self.push_item(number, session)?;
+        self.push(b": refused ")?;
         self.push_refusal(refusal)?;
-        self.text.push('\n')
+        self.push_end()
     }
 
     fn push_refusal(&mut self, refusal: &Refusal) -> Result<(), AllocError>
         ensures { OnOk result (self.new ≡ self.old ++ refusal_text refusal.now) }
     {
         match refusal {
-            Refusal::TooLong => self.text.push_str("too long"),
-            Refusal::Entry => self.text.push_str("entry"),
-            Refusal::Sessions => self.text.push_str("sessions"),
-            Refusal::NotBuilt => self.text.push_str("not built"),
-            Refusal::Exists(name) => write!(self.text, "exists {}", name.as_str()),
-            Refusal::NoSuch(name) => write!(self.text, "no such {}", name.as_str()),
+            Refusal::TooLong => self.push(b"too long"),
+            Refusal::Entry => self.push(b"entry"),
+            Refusal::Sessions => self.push(b"sessions"),
+            Refusal::NotBuilt => self.push(b"not built"),
+            Refusal::Exists(name) => {
+                self.push(b"exists ")?;
+                self.push(name.as_str().as_bytes())
+            }
+            Refusal::NoSuch(name) => {
+                self.push(b"no such ")?;
+                self.push(name.as_str().as_bytes())
+            }
         }
+    }
+
+    fn push(&mut self, piece: &[u8]) -> Result<(), AllocError>
+        ensures { OnOk result (self.new ≡ self.old ++ piece.now) }
+    {
+        self.text.extend_from_slice(piece)
+    }
+
+    fn push_end(&mut self) -> Result<(), AllocError>
+        ensures { OnOk result (self.new ≡ self.old ++ codes "\n") }
+    {
+        self.text.push(b'\n')?;
+        Ok(())
     }
 }

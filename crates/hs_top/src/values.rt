@@ -1,31 +1,38 @@
 // How values are written.
-ghost use Rattle.std.specs.Prelude.{◌≡◌, ◌++◌, OnOk, string_bytes};
+ghost use Rattle.std.specs.Prelude.{◌≡◌, ◌++◌, [], OnOk, codes, if◌then◌else◌};
 ghost use Rattle.hs_top.specs.Lines.{row_text, value_text};
 
+use crate::integer::push_integer;
 use hs_values::Value;
 use std::alloc::AllocError;
-use std::fmt::Write;
 
 /// The values of a row, with a comma between them.
-pub fn push_values(text: &mut String, row: &[Value]) -> Result<(), AllocError>
-    ensures { OnOk result (string_bytes text.new ≡ string_bytes text.old ++ row_text row.now) }
+pub fn push_values(text: &mut Vec<u8>, row: &[Value]) -> Result<(), AllocError>
+    ensures { OnOk result (text.new.items ≡ text.old.items ++ row_text row.now) }
 {
     let mut rest = row;
     while let Some((value, more)) = rest.split_first() {
-        push_value(text, value)?;
-        if !more.is_empty() {
-            text.push(',')?;
-        }
+        push_value(text, value, !more.is_empty())?;
         rest = more;
     }
     Ok(())
 }
 
-fn push_value(text: &mut String, value: &Value) -> Result<(), AllocError>
-    ensures { OnOk result (string_bytes text.new ≡ string_bytes text.old ++ value_text value.now) }
+// A value, with a comma behind it where more are to come.
+fn push_value(text: &mut Vec<u8>, value: &Value, more: bool) -> Result<(), AllocError>
+    ensures { OnOk result (text.new.items ≡ text.old.items ++ (value_text value.now ++ (if more then codes "," else []))) }
 {
     match value {
-        Value::Int(n) => write!(text, "{n}"),
-        _ => Ok(()),
+        Value::Int(n) => push_integer(text, *n, more),
+        _ => push_comma(text, more),
     }
+}
+
+fn push_comma(text: &mut Vec<u8>, more: bool) -> Result<(), AllocError>
+    ensures { OnOk result (text.new.items ≡ text.old.items ++ (if more then codes "," else [])) }
+{
+    if more {
+        text.push(b',')?;
+    }
+    Ok(())
 }
