@@ -1,8 +1,10 @@
 // The whole outside.
-ghost use Rattle.std.specs.Prelude.{◌≡◌, ℕ, ◌+◌, ◌^◌, ◌<◌, ◌≤◌, List, [], ◌++◌, length, take, IfOk, OnOk, OnErr, IsErrOf};
+ghost use Rattle.std.specs.Prelude.{◌≡◌, ℕ, ◌+◌, ◌^◌, ◌<◌, ◌≤◌, List, [], ◌++◌, length, take, IfOk, OnOk, OnErr, IsErrOf, MatchResult};
 ghost use Rattle.std.specs.Io.{WritesAtMost};
 ghost use Rattle.hs_host.specs.Files.{Five, of, with_, overwrite, piece, Standing, IsUnnamed, IsOpen, IsForeign, IsHonest, mounted};
+ghost use Rattle.hs_host.specs.Disk.{written_at, cut_to, settled};
 ghost use Rattle.hs_host.specs.Host.{HasCause, HasMountCause, Rose, AddsOutput};
+ghost use Rattle.hs_host.specs.Moments.{History, Moment, Since, IsStill, IsWritten, IsCut, IsSynced, IsTold, disk_of, with_disk};
 
 use crate::file_kind::FileKind;
 use crate::host_fault::HostFault;
@@ -29,11 +31,15 @@ pub trait Host: Source {
     /// How often a call on the files has failed.
     ghost disk_faults: { Self → ℕ };
 
+    /// The moments so far. What a crash at a moment may leave of each file is told by what the disk has of it then.
+    ghost history: { Self → History };
+
     /// Takes bytes from the front of `bytes` as the next output, and answers how many. Taking none of a
     /// piece that isn't empty is a failure too, and raises `output_faults`.
     fn write_output(&mut self, bytes: &[u8]) -> Result<usize, HostFault>
         ensures bound { WritesAtMost result bytes.now }
         ensures output { Self.tells → AddsOutput (written self.old) (written self.new) bytes.now result }
+        ensures moments { Self.tells → Since (IsTold (history self.old).now bytes.now) (history self.old) (history self.new) }
         ensures none { IfOk result (λ n. n ≡ 0 → 0 < length bytes.now → Rose (output_faults self.old) (output_faults self.new)) }
         ensures cause { HasCause (output_faults self.old) (output_faults self.new) result }
         ensures input { Self.unread self.new ≡ Self.unread self.old }
@@ -51,6 +57,7 @@ pub trait Host: Source {
         ensures foreign { Self.tells → IsErrOf result MountFault.Foreign → IsForeign (standing self.old) }
         ensures own { Self.tells → OnOk result (IsForeign (standing self.old) → ⊥) }
         ensures files { Self.tells → files self.new ≡ files self.old }
+        ensures history { Self.tells → history self.new ≡ history self.old }
         ensures cause { HasMountCause (disk_faults self.old) (disk_faults self.new) result }
         ensures input { Self.unread self.new ≡ Self.unread self.old }
         ensures input_faults { Self.input_faults self.new ≡ Self.input_faults self.old }
@@ -62,6 +69,7 @@ pub trait Host: Source {
         requires { IsOpen (standing self.old) }
         ensures length { Self.tells → IfOk result (λ n. n ≡ length (of (files self.new) file)) }
         ensures files { Self.tells → IsHonest (standing self.old) → files self.new ≡ files self.old }
+        ensures moments { Self.tells → IsHonest (standing self.old) → Since (IsStill (history self.old).now) (history self.old) (history self.new) }
         ensures cause { HasCause (disk_faults self.old) (disk_faults self.new) result }
         ensures standing { standing self.new ≡ standing self.old }
         ensures input { Self.unread self.new ≡ Self.unread self.old }
@@ -75,6 +83,7 @@ pub trait Host: Source {
         requires within { Self.tells → IsHonest (standing self.old) → at + length buf.old ≤ length (of (files self.old) file) }
         ensures bytes { Self.tells → OnOk result (buf.new ≡ piece at (length buf.new) (of (files self.new) file)) }
         ensures files { Self.tells → IsHonest (standing self.old) → files self.new ≡ files self.old }
+        ensures moments { Self.tells → IsHonest (standing self.old) → Since (IsStill (history self.old).now) (history self.old) (history self.new) }
         ensures cause { HasCause (disk_faults self.old) (disk_faults self.new) result }
         ensures standing { standing self.new ≡ standing self.old }
         ensures input { Self.unread self.new ≡ Self.unread self.old }
@@ -90,6 +99,8 @@ pub trait Host: Source {
         ensures room { OnOk result (at + length bytes.now ≤ 2 ^ 62) }
         ensures ok { Self.tells → IsHonest (standing self.old) → OnOk result (files self.new ≡ with_ (files self.old) file (overwrite (of (files self.old) file) at bytes.now)) }
         ensures err { Self.tells → IsHonest (standing self.old) → OnErr result (files self.new ≡ files self.old) }
+        ensures moments { Self.tells → IsHonest (standing self.old) → Since (IsWritten (history self.old).now file at (length bytes.now)) (history self.old) (history self.new) }
+        ensures pending { Self.tells → IsHonest (standing self.old) → OnOk result (IsWritten (history self.old).now file at (length bytes.now) (history self.new).now) }
         ensures cause { HasCause (disk_faults self.old) (disk_faults self.new) result }
         ensures standing { standing self.new ≡ standing self.old }
         ensures input { Self.unread self.new ≡ Self.unread self.old }
@@ -103,6 +114,8 @@ pub trait Host: Source {
         requires within { Self.tells → IsHonest (standing self.old) → len ≤ length (of (files self.old) file) }
         ensures ok { Self.tells → IsHonest (standing self.old) → OnOk result (files self.new ≡ with_ (files self.old) file (take len (of (files self.old) file))) }
         ensures err { Self.tells → IsHonest (standing self.old) → OnErr result (files self.new ≡ files self.old) }
+        ensures moments { Self.tells → IsHonest (standing self.old) → Since (IsCut (history self.old).now file len) (history self.old) (history self.new) }
+        ensures pending { Self.tells → IsHonest (standing self.old) → OnOk result (IsCut (history self.old).now file len (history self.new).now) }
         ensures cause { HasCause (disk_faults self.old) (disk_faults self.new) result }
         ensures standing { standing self.new ≡ standing self.old }
         ensures input { Self.unread self.new ≡ Self.unread self.old }
@@ -114,6 +127,8 @@ pub trait Host: Source {
     fn sync(&mut self, file: FileKind) -> Result<(), HostFault>
         requires { IsOpen (standing self.old) }
         ensures files { Self.tells → IsHonest (standing self.old) → files self.new ≡ files self.old }
+        ensures moments { Self.tells → IsHonest (standing self.old) → MatchResult result (λ _. Since (IsSynced (history self.old).now file (of (files self.old) file)) (history self.old) (history self.new)) (λ _. Since (IsStill (history self.old).now) (history self.old) (history self.new)) }
+        ensures settled { Self.tells → IsHonest (standing self.old) → OnOk result (IsSynced (history self.old).now file (of (files self.old) file) (history self.new).now) }
         ensures cause { HasCause (disk_faults self.old) (disk_faults self.new) result }
         ensures standing { standing self.new ≡ standing self.old }
         ensures input { Self.unread self.new ≡ Self.unread self.old }
@@ -124,4 +139,8 @@ pub trait Host: Source {
     ghost reading_keeps_output: { (a b : Self) → Self.only_input a b → (written b ≡ written a) × (output_faults b ≡ output_faults a) };
 
     ghost reading_keeps_files: { (a b : Self) → Self.only_input a b → (files b ≡ files a) × (standing b ≡ standing a) × (disk_faults b ≡ disk_faults a) };
+
+    ghost output_now: { (h : Self) → Self.tells → (history h).now.out ≡ written h };
+
+    ghost reading_passes: { (a b : Self) → Self.only_input a b → Self.tells → Since (IsStill (history a).now) (history a) (history b) };
 }

@@ -6,7 +6,9 @@
 //! name alone.
 //!
 //! What is said of the files holds of an honest host, one where a read gives the bytes of the calls that
-//! answered `Ok`, applied in order. No contract says yet what a crash leaves.
+//! answered `Ok`, applied in order, and a crash leaves no more than `specs/Disk.antt` allows: of a file that
+//! was touched since its last sync any bytes in each range that was written, and from the least length on
+//! that it had at that sync or was cut to since.
 #![tactic(auto)]
 
 mod file_kind;

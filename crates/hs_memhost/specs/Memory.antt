@@ -1,7 +1,8 @@
 -- What a host in memory is made of, and what of it reading keeps.
 use Rattle.std.specs.Prelude.{ℕ, List}
 use Rattle.hs_host.specs.Files.{Five, Standing}
-use Rattle.hs_memhost.specs.Files.{contents_of}
+use Rattle.hs_host.specs.Moments.{History}
+use Rattle.hs_memhost.specs.Devices.{files_on, history_on}
 use Rattle.hs_memhost.specs.Mounting.{standing_of}
 use Rattle.hs_memhost.specs.declared.memory.MemHost.{MemHost}
 
@@ -15,7 +16,15 @@ calls_of h = h.calls
 
 -- what each file has
 abbrev pub files_in : MemHost → Five (List ℕ)
-files_in h = contents_of h.files
+files_in h = files_on h.devices
+
+-- the moments so far
+abbrev pub history_in : MemHost → History
+history_in h = history_on h.devices
+
+-- the output so far
+abbrev pub output_in : MemHost → List ℕ
+output_in h = (history_in h).now.out
 
 -- its name, and how it stands to the files
 abbrev pub standing_in : MemHost → Standing
@@ -23,7 +32,7 @@ standing_in h = standing_of h.mounting h.is_foreign
 
 -- all but the input, its faults and the number of calls
 pub record Kept : Type 0 where
-  pub output : List ℕ
+  pub history : History
   pub output_faults : ℕ
   pub files : Five (List ℕ)
   pub standing : Standing
@@ -31,4 +40,4 @@ pub record Kept : Type 0 where
   pub failing : List ℕ
 
 abbrev pub kept_of : MemHost → Kept
-kept_of h = record { output = h.output; output_faults = h.output_faults; files = files_in h; standing = standing_in h; disk_faults = h.disk_faults; failing = h.failing }
+kept_of h = record { history = history_in h; output_faults = h.output_faults; files = files_in h; standing = standing_in h; disk_faults = h.disk_faults; failing = h.failing }

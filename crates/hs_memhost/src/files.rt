@@ -1,9 +1,10 @@
 // Five files in memory, as a host keeps them.
-ghost use Rattle.std.specs.Prelude.{◌≡◌, ◌+◌, ◌^◌, ◌≤◌, length, vec_len, take, OnOk, OnErr, IsErrOf};
+ghost use Rattle.std.specs.Prelude.{◌≡◌, ◌+◌, ◌^◌, ◌≤◌, length, vec_len, take, IfOk, OnOk, OnErr, IsErrOf};
 ghost use Rattle.hs_host.specs.Files.{of, with_, overwrite, piece};
 
 use crate::images::Images;
 use hs_host::{FileKind, HostFault};
+use std::alloc::{AllocError, Global};
 
 // The greatest length of a file.
 const MOST_BYTES: u64 = 1 << 62;
@@ -33,6 +34,18 @@ impl Files {
             pages: images.pages.into_vec(),
             backup: images.backup.into_vec(),
         }
+    }
+
+    pub fn copy(&self, alloc: Global) -> Result<Files, AllocError>
+        ensures { IfOk result (λ copied. contents_of copied ≡ contents_of self.now) }
+    {
+        Ok(Files {
+            script0: self.script0.to_vec(alloc)?,
+            script1: self.script1.to_vec(alloc)?,
+            log: self.log.to_vec(alloc)?,
+            pages: self.pages.to_vec(alloc)?,
+            backup: self.backup.to_vec(alloc)?,
+        })
     }
 
     /// The bytes of one file.

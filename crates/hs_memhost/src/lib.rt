@@ -2,7 +2,9 @@
 //! about programs over them speak of those.
 #![tactic(auto)]
 
+mod call;
 mod call_list;
+mod devices;
 mod files;
 mod images;
 mod input;

@@ -7,7 +7,7 @@ ghost use Rattle.hs_host.specs.Files.{of, with_, overwrite, piece, IsForeign, mo
 ghost use Rattle.hs_host.specs.Host.{HasCause, HasMountCause, Rose, TakesInput, AddsOutput};
 
 use crate::call_list::CallList;
-use crate::files::Files;
+use crate::devices::Devices;
 use crate::images::Images;
 use crate::input::Input;
 use crate::mounting::Mounting;
@@ -19,8 +19,7 @@ use std::alloc::Global;
 #[derive(Drop)]
 pub struct MemHost {
     input: Input,
-    output: Bytes,
-    files: Files,
+    devices: Devices,
     mounting: Mounting,
     is_foreign: bool,
     failing: CallList,
@@ -33,9 +32,10 @@ pub struct MemHost {
 impl MemHost {
     ghost use Rattle.hs_memhost.specs.Images.{files_of};
     ghost use Rattle.hs_memhost.specs.Memory.{calls_of, failing_of};
+    ghost use Rattle.hs_memhost.specs.Replay.{history_of};
 
-    /// A host with this input, no output, no name and no call yet. Its files are those of another program
-    /// exactly where `foreign` says so. The calls that are `failing` do nothing but count, and answer
+    /// A host with this input, no output, no name and no call yet. Its files are these, all on the disk. They are
+    /// those of another program exactly where `foreign` says so. The calls that are `failing` do nothing but count, and answer
     /// `Fault`; no other call answers `Fault`.
     pub fn new(
         alloc: Global,
@@ -47,6 +47,7 @@ impl MemHost {
         ensures unread { ⟦<MemHost as Source>⟧.unread result ≡ input }
         ensures written { ⟦<MemHost as Host>⟧.written result ≡ [] }
         ensures files { ⟦<MemHost as Host>⟧.files result ≡ files_of files }
+        ensures history { ⟦<MemHost as Host>⟧.history result ≡ history_of (files_of files) [] }
         ensures standing { ⟦<MemHost as Host>⟧.standing result ≡ record { name = None; is_open = false; is_foreign = foreign; is_honest = true } }
         ensures failing { failing_of result ≡ failing }
         ensures calls { calls_of result ≡ 0 }
@@ -56,8 +57,7 @@ impl MemHost {
     {
         MemHost {
             input: Input::new(alloc, input),
-            output: Bytes::new(alloc),
-            files: Files::from_images(files),
+            devices: Devices::new(alloc, files),
             mounting: Mounting::new(alloc),
             is_foreign: foreign,
             failing,
@@ -74,6 +74,7 @@ impl MemHost {
         ensures unread { ⟦<MemHost as Source>⟧.unread self.new ≡ ⟦<MemHost as Source>⟧.unread self.old }
         ensures written { ⟦<MemHost as Host>⟧.written self.new ≡ ⟦<MemHost as Host>⟧.written self.old }
         ensures files { ⟦<MemHost as Host>⟧.files self.new ≡ ⟦<MemHost as Host>⟧.files self.old }
+        ensures history { ⟦<MemHost as Host>⟧.history self.new ≡ ⟦<MemHost as Host>⟧.history self.old }
         ensures standing { ⟦<MemHost as Host>⟧.standing self.new ≡ ⟦<MemHost as Host>⟧.standing self.old }
         ensures failing { failing_of self.new ≡ failing_of self.old }
         ensures calls { calls_of self.new ≡ calls_of self.old }
@@ -88,14 +89,14 @@ impl MemHost {
     pub fn output(&self) -> &[u8]
         ensures { result.now ≡ ⟦<MemHost as Host>⟧.written self.now }
     {
-        self.output.as_slice()
+        self.devices.output()
     }
 
     /// The bytes of a file.
     pub fn image(&self, file: FileKind) -> &[u8]
         ensures { result.now ≡ of (⟦<MemHost as Host>⟧.files self.now) file }
     {
-        self.files.get(file)
+        self.devices.get(file)
     }
 
     /// How many calls were made.
@@ -173,9 +174,13 @@ impl Source for MemHost {
 }
 
 impl Host for MemHost {
-    ghost use Rattle.hs_memhost.specs.Memory.{calls_of, failing_of, files_in, standing_in};
+    ghost use Rattle.hs_memhost.specs.Memory.{calls_of, failing_of, files_in, history_in, output_in, standing_in};
+    ghost use Rattle.hs_host.specs.Moments.{Since, IsStill, IsWritten, IsCut, IsSynced, IsTold};
+    ghost use Rattle.hs_memhost.specs.Replay.{still_since};
 
-    ghost written = { λ h. h.output };
+    ghost written = { output_in };
+
+    ghost history = { history_in };
 
     ghost output_faults = { λ h. h.output_faults };
 
@@ -185,14 +190,19 @@ impl Host for MemHost {
 
     ghost disk_faults = { λ h. h.disk_faults };
 
-    ghost reading_keeps_output = { λ a b read. (ap (λ k. k.output) read, ap (λ k. k.output_faults) read) };
+    ghost reading_keeps_output = { λ a b read. (ap (λ k. k.history.now.out) read, ap (λ k. k.output_faults) read) };
+
+    ghost output_now = { λ h told. refl };
+
+    ghost reading_passes = { λ a b read told. still_since (ap (λ k. k.history) read) };
 
     ghost reading_keeps_files = { λ a b read. (ap (λ k. k.files) read, ap (λ k. k.standing) read, ap (λ k. k.disk_faults) read) };
 
     fn write_output(&mut self, bytes: &[u8]) -> Result<usize, HostFault>
         ensures bound { WritesAtMost result bytes.now }
-        ensures output { AddsOutput self.old.output self.new.output bytes.now result }
+        ensures output { AddsOutput (output_in self.old) (output_in self.new) bytes.now result }
         ensures none { IfOk result (λ n. n ≡ 0 → 0 < length bytes.now → Rose self.old.output_faults self.new.output_faults) }
+        ensures moments { Since (IsTold (history_in self.old).now bytes.now) (history_in self.old) (history_in self.new) }
         ensures cause { HasCause self.old.output_faults self.new.output_faults result }
         ensures no_fault { OnOk result (self.new.output_faults ≡ self.old.output_faults) }
         ensures input { left_of self.new.input ≡ left_of self.old.input }
@@ -208,10 +218,8 @@ impl Host for MemHost {
             self.output_faults = self.output_faults.saturating_add(1);
             return Err(HostFault::Fault);
         }
-        match self.output.extend(bytes) {
-            Ok(()) => Ok(bytes.len()),
-            Err(_) => Err(HostFault::NoMemory),
-        }
+        self.devices.push_output(bytes)?;
+        Ok(bytes.len())
     }
 
     fn mount(&mut self, name: &str) -> Result<(), MountFault>
@@ -219,11 +227,12 @@ impl Host for MemHost {
         ensures foreign { IsErrOf result MountFault.Foreign → IsForeign (standing_in self.old) }
         ensures own { OnOk result (IsForeign (standing_in self.old) → ⊥) }
         ensures files { files_in self.new ≡ files_in self.old }
+        ensures history { history_in self.new ≡ history_in self.old }
         ensures cause { HasMountCause self.old.disk_faults self.new.disk_faults result }
         ensures no_fault { OnOk result (self.new.disk_faults ≡ self.old.disk_faults) }
         ensures input { left_of self.new.input ≡ left_of self.old.input }
         ensures input_faults { self.new.input_faults ≡ self.old.input_faults }
-        ensures output { self.new.output ≡ self.old.output }
+        ensures output { output_in self.new ≡ output_in self.old }
         ensures output_faults { self.new.output_faults ≡ self.old.output_faults }
 
         // Want of memory for the name comes before all others.
@@ -250,19 +259,20 @@ impl Host for MemHost {
     fn len(&mut self, file: FileKind) -> Result<u64, HostFault>
         ensures length { IfOk result (λ n. n ≡ length (of (files_in self.new) file)) }
         ensures files { files_in self.new ≡ files_in self.old }
+        ensures history { history_in self.new ≡ history_in self.old }
         ensures cause { HasCause self.old.disk_faults self.new.disk_faults result }
         ensures no_fault { OnOk result (self.new.disk_faults ≡ self.old.disk_faults) }
         ensures standing { standing_in self.new ≡ standing_in self.old }
         ensures input { left_of self.new.input ≡ left_of self.old.input }
         ensures input_faults { self.new.input_faults ≡ self.old.input_faults }
-        ensures output { self.new.output ≡ self.old.output }
+        ensures output { output_in self.new ≡ output_in self.old }
         ensures output_faults { self.new.output_faults ≡ self.old.output_faults }
         ensures listed { IsErrOf result HostFault.Fault ↔ Contains (failing_of self.old) (calls_of self.old) }
         ensures calls { calls_of self.new ≡ min (calls_of self.old + 1) (2 ^ 64 - 1) }
         ensures failing { failing_of self.new ≡ failing_of self.old }
     {
         self.reach_disk()?;
-        Ok(self.files.get(file).len() as u64)
+        Ok(self.devices.get(file).len() as u64)
     }
 
     fn read(&mut self, file: FileKind, at: u64, buf: &mut [u8]) -> Result<(), HostFault>
@@ -270,19 +280,20 @@ impl Host for MemHost {
         ensures bytes { OnOk result (buf.new ≡ piece at (length buf.new) (of (files_in self.new) file)) }
         ensures buffer { OnErr result (buf.new ≡ buf.old) }
         ensures files { files_in self.new ≡ files_in self.old }
+        ensures history { history_in self.new ≡ history_in self.old }
         ensures cause { HasCause self.old.disk_faults self.new.disk_faults result }
         ensures no_fault { OnOk result (self.new.disk_faults ≡ self.old.disk_faults) }
         ensures standing { standing_in self.new ≡ standing_in self.old }
         ensures input { left_of self.new.input ≡ left_of self.old.input }
         ensures input_faults { self.new.input_faults ≡ self.old.input_faults }
-        ensures output { self.new.output ≡ self.old.output }
+        ensures output { output_in self.new ≡ output_in self.old }
         ensures output_faults { self.new.output_faults ≡ self.old.output_faults }
         ensures listed { IsErrOf result HostFault.Fault ↔ Contains (failing_of self.old) (calls_of self.old) }
         ensures calls { calls_of self.new ≡ min (calls_of self.old + 1) (2 ^ 64 - 1) }
         ensures failing { failing_of self.new ≡ failing_of self.old }
     {
         self.reach_disk()?;
-        self.files.read(file, at, buf);
+        self.devices.read(file, at, buf);
         Ok(())
     }
 
@@ -291,53 +302,60 @@ impl Host for MemHost {
         ensures room { OnOk result (at + length bytes.now ≤ 2 ^ 62) }
         ensures ok { OnOk result (files_in self.new ≡ with_ (files_in self.old) file (overwrite (of (files_in self.old) file) at bytes.now)) }
         ensures err { OnErr result (files_in self.new ≡ files_in self.old) }
+        ensures moments { Since (IsWritten (history_in self.old).now file at (length bytes.now)) (history_in self.old) (history_in self.new) }
+        ensures pending { OnOk result (IsWritten (history_in self.old).now file at (length bytes.now) (history_in self.new).now) }
         ensures cause { HasCause self.old.disk_faults self.new.disk_faults result }
         ensures no_fault { OnOk result (self.new.disk_faults ≡ self.old.disk_faults) }
         ensures standing { standing_in self.new ≡ standing_in self.old }
         ensures input { left_of self.new.input ≡ left_of self.old.input }
         ensures input_faults { self.new.input_faults ≡ self.old.input_faults }
-        ensures output { self.new.output ≡ self.old.output }
+        ensures output { output_in self.new ≡ output_in self.old }
         ensures output_faults { self.new.output_faults ≡ self.old.output_faults }
         ensures listed { IsErrOf result HostFault.Fault ↔ Contains (failing_of self.old) (calls_of self.old) }
         ensures calls { calls_of self.new ≡ min (calls_of self.old + 1) (2 ^ 64 - 1) }
         ensures failing { failing_of self.new ≡ failing_of self.old }
     {
         self.reach_disk()?;
-        self.files.write(file, at, bytes)
+        self.devices.write(file, at, bytes)
     }
 
     fn cut(&mut self, file: FileKind, len: u64) -> Result<(), HostFault>
         ensures ok { OnOk result (files_in self.new ≡ with_ (files_in self.old) file (take len (of (files_in self.old) file))) }
         ensures err { OnErr result (files_in self.new ≡ files_in self.old) }
+        ensures moments { Since (IsCut (history_in self.old).now file len) (history_in self.old) (history_in self.new) }
+        ensures pending { OnOk result (IsCut (history_in self.old).now file len (history_in self.new).now) }
         ensures cause { HasCause self.old.disk_faults self.new.disk_faults result }
         ensures no_fault { OnOk result (self.new.disk_faults ≡ self.old.disk_faults) }
         ensures standing { standing_in self.new ≡ standing_in self.old }
         ensures input { left_of self.new.input ≡ left_of self.old.input }
         ensures input_faults { self.new.input_faults ≡ self.old.input_faults }
-        ensures output { self.new.output ≡ self.old.output }
+        ensures output { output_in self.new ≡ output_in self.old }
         ensures output_faults { self.new.output_faults ≡ self.old.output_faults }
         ensures listed { IsErrOf result HostFault.Fault ↔ Contains (failing_of self.old) (calls_of self.old) }
         ensures calls { calls_of self.new ≡ min (calls_of self.old + 1) (2 ^ 64 - 1) }
         ensures failing { failing_of self.new ≡ failing_of self.old }
     {
         self.reach_disk()?;
-        self.files.cut(file, len);
-        Ok(())
+        self.devices.cut(file, len)
     }
 
-    fn sync(&mut self, _file: FileKind) -> Result<(), HostFault>
+    fn sync(&mut self, file: FileKind) -> Result<(), HostFault>
         ensures files { files_in self.new ≡ files_in self.old }
+        ensures moments { OnOk result (Since (IsSynced (history_in self.old).now file (of (files_in self.old) file)) (history_in self.old) (history_in self.new)) }
+        ensures settled { OnOk result (IsSynced (history_in self.old).now file (of (files_in self.old) file) (history_in self.new).now) }
+        ensures still { OnErr result (history_in self.new ≡ history_in self.old) }
         ensures cause { HasCause self.old.disk_faults self.new.disk_faults result }
         ensures no_fault { OnOk result (self.new.disk_faults ≡ self.old.disk_faults) }
         ensures standing { standing_in self.new ≡ standing_in self.old }
         ensures input { left_of self.new.input ≡ left_of self.old.input }
         ensures input_faults { self.new.input_faults ≡ self.old.input_faults }
-        ensures output { self.new.output ≡ self.old.output }
+        ensures output { output_in self.new ≡ output_in self.old }
         ensures output_faults { self.new.output_faults ≡ self.old.output_faults }
         ensures listed { IsErrOf result HostFault.Fault ↔ Contains (failing_of self.old) (calls_of self.old) }
         ensures calls { calls_of self.new ≡ min (calls_of self.old + 1) (2 ^ 64 - 1) }
         ensures failing { failing_of self.new ≡ failing_of self.old }
     {
-        self.reach_disk()
+        self.reach_disk()?;
+        self.devices.sync(file)
     }
 }

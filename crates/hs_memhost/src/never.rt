@@ -4,7 +4,7 @@ ghost use Rattle.std.proofs.Common.{◌∙◌, ap};
 ghost use Rattle.hs_memhost.specs.Input.{left_of};
 ghost use Rattle.hs_host.specs.Files.{of};
 
-use crate::files::Files;
+use crate::devices::Devices;
 use crate::images::Images;
 use crate::input::Input;
 use crate::mounting::Mounting;
@@ -17,25 +17,25 @@ use std::alloc::Global;
 #[derive(Drop)]
 pub struct NeverFails {
     input: Input,
-    output: Bytes,
-    files: Files,
+    devices: Devices,
     mounting: Mounting,
 }
 
 impl NeverFails {
     ghost use Rattle.hs_memhost.specs.Images.{files_of};
+    ghost use Rattle.hs_memhost.specs.Replay.{history_of};
 
-    /// A host with this input, no output and no name yet.
+    /// A host with this input, these files, all on the disk, no output and no name yet.
     pub fn new(alloc: Global, input: Bytes, files: Images) -> NeverFails
         ensures unread { ⟦<NeverFails as Source>⟧.unread result ≡ input }
         ensures written { ⟦<NeverFails as Host>⟧.written result ≡ [] }
         ensures files { ⟦<NeverFails as Host>⟧.files result ≡ files_of files }
+        ensures history { ⟦<NeverFails as Host>⟧.history result ≡ history_of (files_of files) [] }
         ensures standing { ⟦<NeverFails as Host>⟧.standing result ≡ record { name = None; is_open = false; is_foreign = false; is_honest = true } }
     {
         NeverFails {
             input: Input::new(alloc, input),
-            output: Bytes::new(alloc),
-            files: Files::from_images(files),
+            devices: Devices::new(alloc, files),
             mounting: Mounting::new(alloc),
         }
     }
@@ -44,14 +44,14 @@ impl NeverFails {
     pub fn output(&self) -> &[u8]
         ensures { result.now ≡ ⟦<NeverFails as Host>⟧.written self.now }
     {
-        self.output.as_slice()
+        self.devices.output()
     }
 
     /// The bytes of a file.
     pub fn image(&self, file: FileKind) -> &[u8]
         ensures { result.now ≡ of (⟦<NeverFails as Host>⟧.files self.now) file }
     {
-        self.files.get(file)
+        self.devices.get(file)
     }
 }
 
@@ -76,28 +76,33 @@ impl Source for NeverFails {
 }
 
 impl Host for NeverFails {
-    ghost use Rattle.hs_memhost.specs.Files.{contents_of};
+    ghost use Rattle.hs_memhost.specs.Devices.{files_on, history_on};
     ghost use Rattle.hs_memhost.specs.Mounting.{standing_of};
+    ghost use Rattle.hs_memhost.specs.Replay.{still_since};
 
-    ghost written = { λ h. h.output };
+    ghost written = { λ h. (history_on h.devices).now.out };
+
+    ghost history = { λ h. history_on h.devices };
 
     ghost output_faults = { λ h. 0 };
 
-    ghost files = { λ h. contents_of h.files };
+    ghost files = { λ h. files_on h.devices };
 
     ghost standing = { λ h. standing_of h.mounting false };
 
     ghost disk_faults = { λ h. 0 };
 
-    ghost reading_keeps_output = { λ a b read. (ap (λ k. k.output) read, refl) };
+    ghost reading_keeps_output = { λ a b read. (ap (λ k. k.history.now.out) read, refl) };
+
+    ghost output_now = { λ h told. refl };
+
+    ghost reading_passes = { λ a b read told. still_since (ap (λ k. k.history) read) };
 
     ghost reading_keeps_files = { λ a b read. (ap (λ k. k.files) read, ap (λ k. k.standing) read, refl) };
 
     fn write_output(&mut self, bytes: &[u8]) -> Result<usize, HostFault> {
-        match self.output.extend(bytes) {
-            Ok(()) => Ok(bytes.len()),
-            Err(_) => Err(HostFault::NoMemory),
-        }
+        self.devices.push_output(bytes)?;
+        Ok(bytes.len())
     }
 
     fn mount(&mut self, name: &str) -> Result<(), MountFault> {
@@ -109,24 +114,23 @@ impl Host for NeverFails {
     }
 
     fn len(&mut self, file: FileKind) -> Result<u64, HostFault> {
-        Ok(self.files.get(file).len() as u64)
+        Ok(self.devices.get(file).len() as u64)
     }
 
     fn read(&mut self, file: FileKind, at: u64, buf: &mut [u8]) -> Result<(), HostFault> {
-        self.files.read(file, at, buf);
+        self.devices.read(file, at, buf);
         Ok(())
     }
 
     fn write(&mut self, file: FileKind, at: u64, bytes: &[u8]) -> Result<(), HostFault> {
-        self.files.write(file, at, bytes)
+        self.devices.write(file, at, bytes)
     }
 
     fn cut(&mut self, file: FileKind, len: u64) -> Result<(), HostFault> {
-        self.files.cut(file, len);
-        Ok(())
+        self.devices.cut(file, len)
     }
 
-    fn sync(&mut self, _file: FileKind) -> Result<(), HostFault> {
-        Ok(())
+    fn sync(&mut self, file: FileKind) -> Result<(), HostFault> {
+        self.devices.sync(file)
     }
 }

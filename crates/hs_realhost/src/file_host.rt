@@ -3,7 +3,7 @@ ghost use Rattle.std.specs.Prelude.{◌≡◌, [], is_some, string_bytes, IfOk, 
 ghost use Rattle.std.specs.Option.{option_map};
 ghost use Rattle.std.proofs.Common.{◌∙◌};
 ghost use Rattle.hs_host.specs.Host.{HasCause};
-ghost use Rattle.hs_realhost.specs.Standing.{standing_of};
+ghost use Rattle.hs_realhost.specs.Standing.{standing_of, no_files, no_history};
 
 use crate::database_files::DatabaseFiles;
 use hs_host::{FileKind, Host, HostFault, MountFault, Source};
@@ -90,11 +90,17 @@ impl<'a, F: Files<File = File>, R: Read + Drop, W: Write + Drop> Host for FileHo
 
     ghost output_faults = { λ h. h.output_faults };
 
-    ghost files = { λ h. record { script0 = []; script1 = []; log = []; data_ = []; backup = [] } };
+    ghost files = { λ h. no_files };
+
+    ghost history = { λ h. no_history };
 
     ghost standing = { λ h. standing_of (option_map string_bytes h.name) (is_some h.files) };
 
     ghost disk_faults = { λ h. h.disk_faults };
+
+    ghost output_now = { λ h told. refl };
+
+    ghost reading_passes = { λ a b read told. absurd told };
 
     ghost reading_keeps_output = { λ a b read. (refl, read.0) };
 
