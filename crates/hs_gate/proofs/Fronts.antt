@@ -1,6 +1,6 @@
 -- A gated file whose bytes before a place stay as they were.
 use Rattle.std.proofs.Common.{◌≡◌, ℕ, ◌+◌, ◌*◌, ◌<◌, ◌≤◌, ◌^◌, ◌==◌, ◌&&◌, nat_le, Bool, true, false, List, [], ◌∷◌, ◌++◌, length, take, drop, get_or, slice_index, Some, refl, sym, ◌∙◌, ap, arith, zero-add, append_assoc, length-append, length-take, length-drop}
-use Rattle.std.proofs.lemmas.List.{append-nil, get_or-take, drop-take, drop_at, length_push, take-take}
+use Rattle.std.proofs.lemmas.List.{append-nil, get_or-take, drop_at, length_push, take-take}
 use Rattle.std.proofs.lemmas.Bool.{leb-true, le-leb}
 use Rattle.hs_host.specs.declared.file_kind.FileKind.{FileKind}
 use Rattle.hs_host.specs.Files.{Five, of, with_, overwrite}
@@ -9,8 +9,9 @@ use Rattle.hs_gate.specs.declared.gated.Front.{Front}
 use Rattle.hs_gate.specs.declared.scan.Ending.{Ending}
 use Rattle.hs_gate.specs.declared.found.Found.TheVariants.{Closed}
 use Rattle.hs_gate.specs.Groups.{Groups, whole, ahead, is_open, epoch_of, eight_bytes, group, end_of, groups_at, groups_of, and_group, is_whole, size_of, number_of}
+use Rattle.hs_gate.specs.Changes.{IsOnly}
 use Rattle.hs_gate.specs.Scan.{found_in, ending}
-use Rattle.hs_gate.specs.Gated.{IsFront, IsGated, IsAtRest, gated_of, reading_of, grown, appended, empty, created}
+use Rattle.hs_gate.specs.Gated.{IsFront, IsGated, IsAtRest, gated_of, reading_of, grown, appended, empty, started, created}
 use Rattle.hs_gate.proofs.Numbers.{number_same, length-spelled, length-spelled_append, length-group, few_groups, length-eight, number_of_eight}
 use Rattle.hs_gate.proofs.Pieces.{piece_same, take_same, take-overwrite, drop-overwrite, length-overwrite}
 use Rattle.hs_gate.proofs.Steps.{groups-drop, closed_first, closed_there, chose_closed}
@@ -59,33 +60,53 @@ with_broken payloads is_broken = record { payloads = payloads; is_broken = is_br
 abbrev pub front_with : Gated → Bool → Front
 front_with gated is_broken = record { gated = gated; is_broken = is_broken }
 
-closed_alone : (tail : List ℕ) → found_in tail ≡ Closed → found_in (take 1 tail) ≡ Closed
-closed_alone [] e = cc
-closed_alone (gate ∷ behind) e = rw (chose_closed (gate == 1) (is_whole behind) (size_of behind) e) refl
+-- bytes that begin with the same gate, which isn't open
+closed_same : (new old : List ℕ) → take 1 new ≡ take 1 old → found_in old ≡ Closed → found_in new ≡ Closed
+closed_same new [] same e = cc
+closed_same [] (b ∷ bs) same e = cc
+closed_same (gate ∷ behind) (b ∷ bs) same e = let gates : gate ≡ b = cc in rw (gates, chose_closed (b == 1) (is_whole bs) (size_of bs) e) refl
 
 pub same_gated : (f h : FileKind) (e e' n n' p p' : ℕ) → f ≡ h → e ≡ e' → n ≡ n' → p ≡ p' → made f e n p ≡ made h e' n' p'
 same_gated f h e e' n n' p p' fh ee nn pp = cc
+
+-- where the bytes before the end of the groups are as before, and a gate that isn't open stands there, the groups are as before
+pub groups_stay : (new bytes : List ℕ) → (groups_of bytes).is_broken ≡ false → take (end_of (groups_of bytes).payloads) new ≡ take (end_of (groups_of bytes).payloads) bytes
+    → end_of (groups_of bytes).payloads < length new → found_in (drop (end_of (groups_of bytes).payloads) new) ≡ Closed → groups_of new ≡ groups_of bytes
+groups_stay new bytes closed same long there =
+    let payloads = (groups_of bytes).payloads in
+    let end = end_of payloads in
+    carry payloads 10 end new bytes refl refl same long
+    ∙ ap (λ (g : Groups). prepend payloads g) (groups-drop end new ∙ closed_first (drop end new) there)
+    ∙ ap (λ (b : Bool). with_broken (payloads ++ []) b) (sym closed)
+    ∙ ap (λ (l : List (List ℕ)). with_broken l (groups_of bytes).is_broken) (append-nil payloads)
+
+-- and where a group and a closed gate stand there, they are one more
+pub groups_grow : (new bytes payload more : List ℕ) → (groups_of bytes).is_broken ≡ false → length payload < 2 ^ 64 → take (end_of (groups_of bytes).payloads) new ≡ take (end_of (groups_of bytes).payloads) bytes
+    → end_of (groups_of bytes).payloads < length new → drop (end_of (groups_of bytes).payloads) new ≡ group payload ++ 0 ∷ more → groups_of new ≡ and_group payload (groups_of bytes)
+groups_grow new bytes payload more closed small same long tail =
+    let payloads = (groups_of bytes).payloads in
+    let end = end_of payloads in
+    let last : groups_at end new ≡ whole (payload ∷ []) =
+    groups-drop end new
+    ∙ ap (λ (l : List ℕ). groups_at 0 l) tail
+    ∙ group_read payload (0 ∷ more) small (omega arith)
+    ∙ ap (λ (g : Groups). ahead payload g) (closed_first (0 ∷ more) refl) in
+    carry payloads 10 end new bytes refl refl same long
+    ∙ ap (λ (g : Groups). prepend payloads g) last
+    ∙ ap (λ (b : Bool). with_broken (payloads ++ payload ∷ []) b) (sym closed)
 
 -- one more group in the bytes
 pub append_groups : (bytes payload : List ℕ) → is_open bytes ≡ true → (groups_of bytes).is_broken ≡ false → length payload < 2 ^ 64
     → groups_of (appended bytes (end_of (groups_of bytes).payloads) payload) ≡ and_group payload (groups_of bytes)
 append_groups bytes payload opened closed small =
-    let payloads = (groups_of bytes).payloads in
-    let end = end_of payloads in
+    let end = end_of (groups_of bytes).payloads in
     let within : end < length bytes = front_within bytes opened in
     let body = group payload ++ 0 ∷ [] in
     let new = appended bytes end payload in
-    let more = 0 ∷ drop (end + length body) bytes in
-    let long : end < length new = omega (arith, length-overwrite bytes end body (omega (arith, within)), length-append (group payload) (0 ∷ [])) in
-    let tail : drop end new ≡ group payload ++ more = drop-overwrite bytes end body (omega (arith, within)) ∙ append_assoc (group payload) (0 ∷ []) (drop (end + length body) bytes) in
-    let last : groups_at end new ≡ whole (payload ∷ []) =
-    groups-drop end new
-    ∙ ap (λ (l : List ℕ). groups_at 0 l) tail
-    ∙ group_read payload more small (omega arith)
-    ∙ ap (λ (g : Groups). ahead payload g) (closed_first more refl) in
-    carry payloads 10 end new bytes refl refl (take-overwrite bytes end body (omega (arith, within))) long
-    ∙ ap (λ (g : Groups). prepend payloads g) last
-    ∙ ap (λ (b : Bool). with_broken (payloads ++ payload ∷ []) b) (sym closed)
+    let more = drop (end + length body) bytes in
+    groups_grow new bytes payload more closed small (take-overwrite bytes end body (omega (arith, within)))
+    (omega (arith, length-overwrite bytes end body (omega (arith, within)), length-append (group payload) (0 ∷ [])))
+    (drop-overwrite bytes end body (omega (arith, within)) ∙ append_assoc (group payload) (0 ∷ []) more)
 
 -- and so in the file
 pub append_gated : (old new : Five (List ℕ)) (gated : Gated) (payload : List ℕ) → IsGated old gated → length payload < 2 ^ 64
@@ -133,22 +154,23 @@ append_at_rest old new gated payload rest small is = record {
       omega (arith, ap length is, length-append (take gated.end bytes ++ body) (drop (gated.end + length body) bytes), length-append (take gated.end bytes) body, size, front, none);
 }
 
--- what stands behind the gate may be cut off
-pub cut_groups : (bytes : List ℕ) → is_open bytes ≡ true → (groups_of bytes).is_broken ≡ false → groups_of (take (end_of (groups_of bytes).payloads + 1) bytes) ≡ groups_of bytes
-cut_groups bytes opened closed =
+-- what stands behind the gate may be other
+pub front_groups : (new bytes : List ℕ) → is_open bytes ≡ true → (groups_of bytes).is_broken ≡ false → take (end_of (groups_of bytes).payloads + 1) new ≡ take (end_of (groups_of bytes).payloads + 1) bytes
+    → end_of (groups_of bytes).payloads < length new → groups_of new ≡ groups_of bytes
+front_groups new bytes opened closed same long =
     let payloads = (groups_of bytes).payloads in
     let end = end_of payloads in
-    let new = take (end + 1) bytes in
-    let within : end < length bytes = front_within bytes opened in
-    let long : end < length new = omega (arith, length-take (end + 1) bytes, within) in
     let on = walk payloads [] 10 end bytes (sym (append-nil payloads)) (open_long bytes opened) refl in
     let there : found_in (drop end bytes) ≡ Closed = closed_there end bytes on.rest (on.same ∙ closed) in
-    let tail : drop end new ≡ take 1 (drop end bytes) = drop-take end 1 bytes in
-    let last : groups_at end new ≡ whole [] = groups-drop end new ∙ ap (λ (l : List ℕ). groups_at 0 l) tail ∙ closed_first (take 1 (drop end bytes)) (closed_alone (drop end bytes) there) in
-    carry payloads 10 end new bytes refl refl (take-take end (end + 1) bytes (omega arith)) long
-    ∙ ap (λ (g : Groups). prepend payloads g) last
-    ∙ ap (λ (b : Bool). with_broken (payloads ++ []) b) (sym closed)
-    ∙ ap (λ (l : List (List ℕ)). with_broken l (groups_of bytes).is_broken) (append-nil payloads)
+    let gate : take 1 (drop end new) ≡ take 1 (drop end bytes) = piece_same end 1 (end + 1) new bytes same (omega arith) in
+    groups_stay new bytes closed (take_same end (end + 1) new bytes same (omega arith)) long (closed_same (drop end new) (drop end bytes) gate there)
+
+-- or nothing
+pub cut_groups : (bytes : List ℕ) → is_open bytes ≡ true → (groups_of bytes).is_broken ≡ false → groups_of (take (end_of (groups_of bytes).payloads + 1) bytes) ≡ groups_of bytes
+cut_groups bytes opened closed =
+    let end = end_of (groups_of bytes).payloads in
+    let within : end < length bytes = front_within bytes opened in
+    front_groups (take (end + 1) bytes) bytes opened closed (take-take (end + 1) (end + 1) bytes (omega arith)) (omega (arith, length-take (end + 1) bytes, within))
 
 pub cut_gated : (old new : Five (List ℕ)) (gated : Gated) → IsGated old gated → of new gated.file ≡ take (gated.end + 1) (of old gated.file)
     → (groups_of (of new gated.file) ≡ groups_of (of old gated.file)) × IsAtRest new gated
@@ -231,20 +253,32 @@ fresh files file birth epoch small is =
       last = ap length is ∙ f.3;
     }
 
-start_bytes : (bytes header : List ℕ) → 2 ≤ length bytes → overwrite (take 2 bytes ++ header) 1 (1 ∷ []) ≡ get_or bytes 0 0 ∷ 1 ∷ header
+start_bytes : (bytes header : List ℕ) → 2 ≤ length bytes → overwrite (take 2 bytes ++ header) 1 (1 ∷ []) ≡ take 1 bytes ++ (1 ∷ header)
 start_bytes [] header long = absurd (omega (arith, long))
 start_bytes (b ∷ []) header long = absurd (omega (arith, long))
 start_bytes (b ∷ c ∷ bytes) header long = refl
 
+birth_byte : (bytes : List ℕ) → 2 ≤ length bytes → take 1 bytes ≡ get_or bytes 0 0 ∷ []
+birth_byte [] long = absurd (omega (arith, long))
+birth_byte (b ∷ bytes) long = refl
+
 -- the file that a start leaves
-pub started_fresh : (old mid new : Five (List ℕ)) (file : FileKind) (header : List ℕ) (epoch : ℕ) → epoch < 2 ^ 64 → 2 ≤ length (of old file) → header ≡ eight_bytes epoch ++ 0 ∷ []
-    → mid ≡ with_ old file (take 2 (of old file) ++ header) → new ≡ with_ mid file (overwrite (of mid file) 1 (1 ∷ [])) → IsAtRest new (empty file epoch)
-started_fresh old mid new file header epoch small long header_is mid_is new_is =
+pub started_is : (old first mid new : Five (List ℕ)) (file : FileKind) (header : List ℕ) (epoch : ℕ) → 2 ≤ length (of first file) → header ≡ eight_bytes epoch ++ 0 ∷ [] → IsOnly old file first
+    → take 1 (of first file) ≡ take 1 (of old file) → mid ≡ with_ first file (take 2 (of first file) ++ header) → new ≡ with_ mid file (overwrite (of mid file) 1 (1 ∷ []))
+    → new ≡ with_ old file (started (of old file) epoch)
+started_is old first mid new file header epoch long header_is first_is same mid_is new_is =
+    let bytes = of first file in
+    let replaced = take 2 bytes ++ header in
+    changed_twice old mid new file replaced (overwrite (of mid file) 1 (1 ∷ [])) (changed_twice old first mid file bytes replaced first_is mid_is) new_is
+    ∙ ap (λ (l : List ℕ). with_ old file (overwrite l 1 (1 ∷ []))) (of_written first mid file replaced mid_is)
+    ∙ ap (λ (l : List ℕ). with_ old file l) (start_bytes bytes header long)
+    ∙ ap (λ (l : List ℕ). with_ old file (take 1 bytes ++ (1 ∷ l))) header_is
+    ∙ ap (λ (l : List ℕ). with_ old file (l ++ (1 ∷ eight_bytes epoch ++ 0 ∷ []))) same
+
+pub started_fresh : (old new : Five (List ℕ)) (file : FileKind) (epoch : ℕ) → epoch < 2 ^ 64 → 2 ≤ length (of old file) → new ≡ with_ old file (started (of old file) epoch) → IsAtRest new (empty file epoch)
+started_fresh old new file epoch small long is =
     fresh new file (get_or (of old file) 0 0) epoch small
-    (of_written mid new file (overwrite (of mid file) 1 (1 ∷ [])) new_is
-    ∙ ap (λ (l : List ℕ). overwrite l 1 (1 ∷ [])) (of_written old mid file (take 2 (of old file) ++ header) mid_is)
-    ∙ start_bytes (of old file) header long
-    ∙ ap (λ (l : List ℕ). get_or (of old file) 0 0 ∷ 1 ∷ l) header_is)
+    (of_written old new file (started (of old file) epoch) is ∙ ap (λ (l : List ℕ). l ++ (1 ∷ eight_bytes epoch ++ 0 ∷ [])) (birth_byte (of old file) long))
 
 -- the file that a creation leaves
 pub created_is : (old mid new : Five (List ℕ)) (file : FileKind) → mid ≡ with_ old file (take 0 (of old file) ++ (0 ∷ 1 ∷ 0 ∷ 0 ∷ 0 ∷ 0 ∷ 0 ∷ 0 ∷ 0 ∷ 1 ∷ 0 ∷ []))

@@ -1,10 +1,12 @@
 pub mod Carried
 pub mod Fronts
 pub mod Looking
+pub mod Moments
 pub mod Numbers
 pub mod Parts
 pub mod Pieces
 pub mod Scanning
 pub mod Spelling
 pub mod Steps
+pub mod Torn
 pub mod Writes

@@ -1,12 +1,22 @@
 -- Writes into one of five files.
-use Rattle.std.proofs.Common.{◌≡◌, ℕ, ◌+◌, ◌<◌, ◌≤◌, List, [], ◌∷◌, ◌++◌, length, ◌∙◌, ap}
+use Rattle.std.proofs.Common.{◌≡◌, ℕ, ◌+◌, ◌<◌, ◌≤◌, List, [], ◌∷◌, ◌++◌, length, take, ◌∙◌, ap, arith}
 use Rattle.hs_host.specs.declared.file_kind.FileKind.{FileKind}
 use Rattle.hs_host.specs.Files.{Five, of, with_, overwrite}
 use Rattle.hs_host.proofs.Files.{of_with, with_with}
-use Rattle.hs_gate.proofs.Pieces.{overwrite_on, overwrite_before}
+use Rattle.hs_gate.proofs.Pieces.{take_same, take-overwrite, length-overwrite, overwrite_on, overwrite_before}
 
 pub of_written : (old new : Five (List ℕ)) (file : FileKind) (bytes : List ℕ) → new ≡ with_ old file bytes → of new file ≡ bytes
 of_written old new file bytes is = ap (λ (f : Five (List ℕ)). of f file) is ∙ of_with old file bytes
+
+-- a write leaves what stands before it
+pub wrote_behind : (old new : Five (List ℕ)) (file : FileKind) (n at : ℕ) (bytes : List ℕ) → at ≤ length (of old file) → n ≤ at → new ≡ with_ old file (overwrite (of old file) at bytes)
+    → (take n (of new file) ≡ take n (of old file)) × (at + length bytes ≤ length (of new file))
+wrote_behind old new file n at bytes within le is =
+    let all = overwrite (of old file) at bytes in
+    let now : of new file ≡ all = of_written old new file all is in (
+      ap (λ (l : List ℕ). take n l) now ∙ take_same n at all (of old file) (take-overwrite (of old file) at bytes within) le,
+      omega (arith, ap length now, length-overwrite (of old file) at bytes within),
+    )
 
 -- a second change of a file takes the place of the first
 pub changed_twice : (old mid new : Five (List ℕ)) (file : FileKind) (first second : List ℕ) → mid ≡ with_ old file first → new ≡ with_ mid file second → new ≡ with_ old file second

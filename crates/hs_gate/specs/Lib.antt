@@ -1,4 +1,5 @@
 pub mod Changes
+pub mod Crash
 pub mod Faults
 pub mod Gated
 pub mod Groups

@@ -1,7 +1,9 @@
 // A gated file that was read.
 ghost use Rattle.std.specs.Prelude.{◌≡◌, ◌↔◌, ℕ, ◌+◌, ◌≤◌, length, take, None, Err, IfOk, IfSome, OnOk, OnErr, IsErrOf};
 ghost use Rattle.hs_host.specs.Files.{of, with_, IsOpen, IsHonest};
+ghost use Rattle.hs_host.specs.Moments.{Since, IsStill, OneFile};
 ghost use Rattle.hs_gate.specs.Changes.{IsOnly};
+ghost use Rattle.hs_gate.specs.Crash.{IsCalm, IsAsBefore, IsBeforeOrAfter};
 ghost use Rattle.hs_gate.specs.Faults.{HasGateCause, IsNeverBroken};
 ghost use Rattle.hs_gate.specs.Groups.{groups_of, and_group};
 
@@ -46,6 +48,7 @@ impl Gated {
     /// It answers none exactly where `at` is `end`. `Broken(at)` comes only where the bytes that were read are
     /// no whole group, and never over an honest host. `Disk` comes only where a call of the host failed, and
     /// `NoMemory` is free.
+    #[tactic(auto, using(crate::proofs::Moments::still_on))]
     pub fn part<H: Host>(
         &self,
         alloc: Global,
@@ -62,6 +65,7 @@ impl Gated {
         ensures whole { H.tells → IsHonest (H.standing host.old) → IsNeverBroken result }
         ensures broken { (number : ℕ) → IsErrOf result (GateFault.Broken number) → number ≡ at }
         ensures files { H.tells → IsHonest (H.standing host.old) → H.files host.new ≡ H.files host.old }
+        ensures moments { H.tells → IsHonest (H.standing host.old) → Since (IsStill (H.history host.old).now) (H.history host.old) (H.history host.new) }
         ensures cause { HasGateCause (H.disk_faults host.old) (H.disk_faults host.new) result }
         ensures standing { H.standing host.new ≡ H.standing host.old }
         ensures input { H.unread host.new ≡ H.unread host.old }
@@ -92,8 +96,12 @@ impl Gated {
     /// Adds a group: its length, its payload and a closed gate are written and synced, then its gate is
     /// opened and synced. It takes no memory of its own.
     ///
+    /// Where the file stood on the disk up to the gate that ends its groups, a crash at any moment leaves its
+    /// groups as they were, or these and the new one. After an `Ok` it stands there up to the new gate.
+    ///
     /// After an `Err` this is unchanged, and the file is to be read again. `Disk` comes only where a call of
     /// the host failed. `NoMemory` is handed on from the host, and comes where the places don't fit in 64 bits.
+    #[tactic(auto, using(crate::proofs::Fronts::end_within))]
     pub fn append<H: Host>(&mut self, host: &mut H, payload: &[u8]) -> Result<(), GateFault>
         requires opened { IsOpen (H.standing host.old) }
         requires gated { H.tells → IsHonest (H.standing host.old) → IsGated (H.files host.old) self.old }
@@ -105,6 +113,8 @@ impl Gated {
         ensures bytes { H.tells → IsHonest (H.standing host.old) → OnOk result (of (H.files host.new) self.old.file ≡ appended (of (H.files host.old) self.old.file) self.old.end payload.now) }
         ensures before { H.tells → IsHonest (H.standing host.old) → OnOk result (take self.old.end (of (H.files host.new) self.old.file) ≡ take self.old.end (of (H.files host.old) self.old.file)) }
         ensures others { H.tells → IsHonest (H.standing host.old) → IsOnly (H.files host.old) self.old.file (H.files host.new) }
+        ensures moments { H.tells → IsHonest (H.standing host.old) → IsCalm (H.history host.old) (H.files host.old) self.old → Since (OneFile (H.history host.old).now self.old.file (IsBeforeOrAfter (of (H.files host.old) self.old.file) self.old.end payload.now)) (H.history host.old) (H.history host.new) }
+        ensures calm { H.tells → IsHonest (H.standing host.old) → OnOk result (IsCalm (H.history host.new) (H.files host.new) self.new) }
         ensures cause { HasGateCause (H.disk_faults host.old) (H.disk_faults host.new) result }
         ensures whole { IsNeverBroken result }
         ensures standing { H.standing host.new ≡ H.standing host.old }
@@ -139,6 +149,9 @@ impl Gated {
 
     /// Brings a file that was read to the disk, and cuts off what stands behind the gate that ends its groups.
     ///
+    /// Where the file stood on the disk up to that gate, a crash at any moment leaves its groups as they were.
+    /// After an `Ok` it stands there.
+    ///
     /// `Disk` comes only where a call of the host failed. `NoMemory` is handed on from the host, and comes
     /// where the places don't fit in 64 bits.
     pub fn settle<H: Host>(&self, host: &mut H) -> Result<(), GateFault>
@@ -149,6 +162,8 @@ impl Gated {
         ensures gated { H.tells → IsHonest (H.standing host.old) → IsGated (H.files host.new) self.now }
         ensures at_rest { H.tells → IsHonest (H.standing host.old) → OnOk result (IsAtRest (H.files host.new) self.now) }
         ensures groups { H.tells → IsHonest (H.standing host.old) → groups_of (of (H.files host.new) self.now.file) ≡ groups_of (of (H.files host.old) self.now.file) }
+        ensures moments { H.tells → IsHonest (H.standing host.old) → IsCalm (H.history host.old) (H.files host.old) self.now → Since (OneFile (H.history host.old).now self.now.file (IsAsBefore (of (H.files host.old) self.now.file) self.now.end)) (H.history host.old) (H.history host.new) }
+        ensures calm { H.tells → IsHonest (H.standing host.old) → OnOk result (IsCalm (H.history host.new) (H.files host.new) self.now) }
         ensures cause { HasGateCause (H.disk_faults host.old) (H.disk_faults host.new) result }
         ensures whole { IsNeverBroken result }
         ensures standing { H.standing host.new ≡ H.standing host.old }

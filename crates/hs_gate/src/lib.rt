@@ -6,6 +6,8 @@
 //! to the first gate that isn't open, and what follows isn't looked at.
 //!
 //! A group is added by writing it behind its closed gate, and then opening the gate, with a sync after each.
+//! So a crash while it is added leaves the groups as they were, or these and the new one (`specs/Crash.antt`).
+//! While a file is made anew, nothing is promised of what a crash leaves of it.
 #![tactic(auto)]
 
 mod found;

@@ -1,6 +1,7 @@
 // Reads a gated file.
 ghost use Rattle.std.specs.Prelude.{◌≡◌, ◌+◌, ◌*◌, ◌≤◌, IfOk, IfSome};
 ghost use Rattle.hs_host.specs.Files.{of, IsOpen, IsHonest};
+ghost use Rattle.hs_host.specs.Moments.{Since, IsStill};
 ghost use Rattle.hs_gate.specs.Faults.{HasGateCause, IsNeverBroken};
 
 use crate::found::number;
@@ -30,6 +31,7 @@ impl Gated {
         ensures room { IfOk result (λ gated. IfSome gated (λ g. HasRoom g)) }
         ensures file { IfOk result (λ gated. IfSome gated (λ g. g.file ≡ file)) }
         ensures files { H.tells → IsHonest (H.standing host.old) → H.files host.new ≡ H.files host.old }
+        ensures moments { H.tells → IsHonest (H.standing host.old) → Since (IsStill (H.history host.old).now) (H.history host.old) (H.history host.new) }
         ensures cause { HasGateCause (H.disk_faults host.old) (H.disk_faults host.new) result }
         ensures standing { H.standing host.new ≡ H.standing host.old }
         ensures input { H.unread host.new ≡ H.unread host.old }
@@ -50,6 +52,7 @@ impl Gated {
     ///
     /// It answers none exactly where the file isn't open. `Disk` comes only where a call of the host failed,
     /// and `NoMemory` is free.
+    #[tactic(auto, using(crate::proofs::Moments::still_on))]
     pub fn front<H: Host>(
         alloc: Global,
         host: &mut H,
@@ -62,6 +65,7 @@ impl Gated {
         ensures file { IfOk result (λ front. IfSome front (λ f. f.gated.file ≡ file)) }
         ensures whole { IsNeverBroken result }
         ensures files { H.tells → IsHonest (H.standing host.old) → H.files host.new ≡ H.files host.old }
+        ensures moments { H.tells → IsHonest (H.standing host.old) → Since (IsStill (H.history host.old).now) (H.history host.old) (H.history host.new) }
         ensures cause { HasGateCause (H.disk_faults host.old) (H.disk_faults host.new) result }
         ensures standing { H.standing host.new ≡ H.standing host.old }
         ensures input { H.unread host.new ≡ H.unread host.old }

@@ -1,6 +1,7 @@
 // Reads of a file into memory.
 ghost use Rattle.std.specs.Prelude.{◌≡◌, ◌+◌, ◌^◌, ◌<◌, ◌≤◌, length, take, IfOk, OnOk};
 ghost use Rattle.hs_host.specs.Files.{of, piece, IsOpen, IsHonest};
+ghost use Rattle.hs_host.specs.Moments.{Since, IsStill};
 ghost use Rattle.hs_gate.specs.Faults.{HasGateCause, IsNeverBroken};
 
 use crate::gate_fault::GateFault;
@@ -21,6 +22,7 @@ pub fn read_front<H: Host>(
     requires within { H.tells → IsHonest (H.standing host.old) → at + count ≤ length (of (H.files host.old) file) }
     ensures bytes { H.tells → IsHonest (H.standing host.old) → OnOk result (take count buffer.new ≡ piece at count (of (H.files host.new) file)) }
     ensures files { H.tells → IsHonest (H.standing host.old) → H.files host.new ≡ H.files host.old }
+    ensures moments { H.tells → IsHonest (H.standing host.old) → Since (IsStill (H.history host.old).now) (H.history host.old) (H.history host.new) }
     ensures cause { HasGateCause (H.disk_faults host.old) (H.disk_faults host.new) result }
     ensures whole { IsNeverBroken result }
     ensures standing { H.standing host.new ≡ H.standing host.old }
@@ -49,6 +51,7 @@ pub fn read_payload<H: Host>(
     ensures payload { H.tells → IsHonest (H.standing host.old) → IfOk result (λ payload. payload ≡ piece at size (of (H.files host.old) file)) }
     ensures size { IfOk result (λ payload. length payload ≡ size) }
     ensures files { H.tells → IsHonest (H.standing host.old) → H.files host.new ≡ H.files host.old }
+    ensures moments { H.tells → IsHonest (H.standing host.old) → Since (IsStill (H.history host.old).now) (H.history host.old) (H.history host.new) }
     ensures cause { HasGateCause (H.disk_faults host.old) (H.disk_faults host.new) result }
     ensures whole { IsNeverBroken result }
     ensures standing { H.standing host.new ≡ H.standing host.old }
@@ -81,6 +84,7 @@ fn read_behind<H: Host>(
     requires first { H.tells → IsHonest (H.standing host.old) → first.now ≡ piece at (length first.now) (of (H.files host.old) file) }
     ensures bytes { H.tells → IsHonest (H.standing host.old) → OnOk result (buffer.new ≡ piece at (length buffer.new) (of (H.files host.old) file)) }
     ensures files { H.tells → IsHonest (H.standing host.old) → H.files host.new ≡ H.files host.old }
+    ensures moments { H.tells → IsHonest (H.standing host.old) → Since (IsStill (H.history host.old).now) (H.history host.old) (H.history host.new) }
     ensures cause { HasGateCause (H.disk_faults host.old) (H.disk_faults host.new) result }
     ensures whole { IsNeverBroken result }
     ensures standing { H.standing host.new ≡ H.standing host.old }

@@ -1,6 +1,7 @@
 // Finds the groups of a file.
 ghost use Rattle.std.specs.Prelude.{◌≡◌, ◌+◌, ◌*◌, ◌<◌, ◌≤◌, length, IfOk};
 ghost use Rattle.hs_host.specs.Files.{of, IsOpen, IsHonest};
+ghost use Rattle.hs_host.specs.Moments.{Since, IsStill};
 ghost use Rattle.hs_gate.specs.Faults.{HasGateCause, IsNeverBroken};
 ghost use Rattle.hs_gate.specs.Groups.{groups_of};
 
@@ -43,6 +44,7 @@ impl Ending {
         ensures room { IfOk result (λ found. found.groups * 9 + FIRST_PLACE ≤ found.end) }
         ensures whole { IsNeverBroken result }
         ensures files { H.tells → IsHonest (H.standing host.old) → H.files host.new ≡ H.files host.old }
+        ensures moments { H.tells → IsHonest (H.standing host.old) → Since (IsStill (H.history host.old).now) (H.history host.old) (H.history host.new) }
         ensures cause { HasGateCause (H.disk_faults host.old) (H.disk_faults host.new) result }
         ensures standing { H.standing host.new ≡ H.standing host.old }
         ensures input { H.unread host.new ≡ H.unread host.old }

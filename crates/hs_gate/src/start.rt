@@ -1,6 +1,8 @@
 // How a gated file begins.
 ghost use Rattle.std.specs.Prelude.{◌≡◌, ◌<◌, ◌≤◌, [], ◌∷◌, ◌++◌, length, take, slice_index, IfOk, OnOk};
 ghost use Rattle.hs_host.specs.Files.{of, with_, IsOpen, IsHonest};
+ghost use Rattle.hs_host.specs.Moments.{Since, IsStill, OneFile};
+ghost use Rattle.hs_gate.specs.Crash.{IsCalm, IsAny};
 ghost use Rattle.hs_gate.specs.Faults.{HasGateCause, IsNeverBroken};
 ghost use Rattle.hs_gate.specs.Changes.{IsOnly};
 ghost use Rattle.hs_gate.specs.Groups.{is_born, eight_bytes};
@@ -17,10 +19,12 @@ impl Gated {
     /// Whether a file is born: it isn't empty, and its first byte is 1.
     ///
     /// `Disk` comes only where a call of the host failed, and `NoMemory` is handed on from the host.
+    #[tactic(auto, using(crate::proofs::Moments::still_on))]
     pub fn is_born<H: Host>(host: &mut H, file: FileKind) -> Result<bool, GateFault>
         requires { IsOpen (H.standing host.old) }
         ensures born { H.tells → IsHonest (H.standing host.old) → IfOk result (λ born. born ≡ is_born (of (H.files host.old) file)) }
         ensures files { H.tells → IsHonest (H.standing host.old) → H.files host.new ≡ H.files host.old }
+        ensures moments { H.tells → IsHonest (H.standing host.old) → Since (IsStill (H.history host.old).now) (H.history host.old) (H.history host.new) }
         ensures cause { HasGateCause (H.disk_faults host.old) (H.disk_faults host.new) result }
         ensures whole { IsNeverBroken result }
         ensures standing { H.standing host.new ≡ H.standing host.old }
@@ -38,13 +42,19 @@ impl Gated {
     /// Makes a file anew, whatever stands in it, as a born one of epoch 1 without groups. It is written unborn
     /// and synced first, and then born and synced. It is never shorter than this on the way.
     ///
+    /// Nothing is promised of what a crash leaves of the file while it is made anew. After an `Ok` all of it
+    /// stands on the disk.
+    ///
     /// `Disk` comes only where a call of the host failed, and `NoMemory` is handed on from the host.
+    #[tactic(auto, using(crate::proofs::Moments::any_on, crate::proofs::Moments::any_writing))]
     pub fn create<H: Host>(host: &mut H, file: FileKind) -> Result<Gated, GateFault>
         requires { IsOpen (H.standing host.old) }
         ensures ok { H.tells → IsHonest (H.standing host.old) → OnOk result (H.files host.new ≡ with_ (H.files host.old) file created) }
         ensures others { H.tells → IsHonest (H.standing host.old) → IsOnly (H.files host.old) file (H.files host.new) }
         ensures empty { IfOk result (λ gated. gated ≡ empty file 1) }
         ensures at_rest { H.tells → IsHonest (H.standing host.old) → IfOk result (IsAtRest (H.files host.new)) }
+        ensures moments { H.tells → IsHonest (H.standing host.old) → Since (OneFile (H.history host.old).now file IsAny) (H.history host.old) (H.history host.new) }
+        ensures calm { H.tells → IsHonest (H.standing host.old) → IfOk result (IsCalm (H.history host.new) (H.files host.new)) }
         ensures cause { HasGateCause (H.disk_faults host.old) (H.disk_faults host.new) result }
         ensures whole { IsNeverBroken result }
         ensures standing { H.standing host.new ≡ H.standing host.old }
@@ -62,7 +72,11 @@ impl Gated {
     /// counts for nothing. An open header gate is closed and synced first, then the epoch and a closed gate are
     /// written in place of all groups and synced, and then the header gate is opened and synced.
     ///
+    /// Nothing is promised of what a crash leaves of the file while it is started anew. After an `Ok` all of it
+    /// stands on the disk.
+    ///
     /// `Disk` comes only where a call of the host failed, and `NoMemory` is handed on from the host.
+    #[tactic(auto, using(crate::proofs::Moments::any_on))]
     pub fn start<H: Host>(host: &mut H, file: FileKind, epoch: u64) -> Result<Gated, GateFault>
         requires opened { IsOpen (H.standing host.old) }
         requires long { H.tells → IsHonest (H.standing host.old) → 2 ≤ length (of (H.files host.old) file) }
@@ -70,6 +84,8 @@ impl Gated {
         ensures others { H.tells → IsHonest (H.standing host.old) → IsOnly (H.files host.old) file (H.files host.new) }
         ensures empty { IfOk result (λ gated. gated ≡ empty file epoch) }
         ensures at_rest { H.tells → IsHonest (H.standing host.old) → IfOk result (IsAtRest (H.files host.new)) }
+        ensures moments { H.tells → IsHonest (H.standing host.old) → Since (OneFile (H.history host.old).now file IsAny) (H.history host.old) (H.history host.new) }
+        ensures calm { H.tells → IsHonest (H.standing host.old) → IfOk result (IsCalm (H.history host.new) (H.files host.new)) }
         ensures cause { HasGateCause (H.disk_faults host.old) (H.disk_faults host.new) result }
         ensures whole { IsNeverBroken result }
         ensures standing { H.standing host.new ≡ H.standing host.old }
@@ -112,6 +128,7 @@ fn byte_at<H: Host>(host: &mut H, file: FileKind, at: u64) -> Result<u8, GateFau
     requires within { H.tells → IsHonest (H.standing host.old) → at < length (of (H.files host.old) file) }
     ensures byte { H.tells → IsHonest (H.standing host.old) → IfOk result (λ byte. byte ≡ slice_index (of (H.files host.old) file) at) }
     ensures files { H.tells → IsHonest (H.standing host.old) → H.files host.new ≡ H.files host.old }
+    ensures moments { H.tells → IsHonest (H.standing host.old) → Since (IsStill (H.history host.old).now) (H.history host.old) (H.history host.new) }
     ensures cause { HasGateCause (H.disk_faults host.old) (H.disk_faults host.new) result }
     ensures whole { IsNeverBroken result }
     ensures standing { H.standing host.new ≡ H.standing host.old }
@@ -126,12 +143,14 @@ fn byte_at<H: Host>(host: &mut H, file: FileKind, at: u64) -> Result<u8, GateFau
 }
 
 // Closes a header gate that is open, and syncs it.
+#[tactic(auto, using(crate::proofs::Moments::any_still))]
 fn close_header<H: Host>(host: &mut H, file: FileKind) -> Result<(), GateFault>
     requires opened { IsOpen (H.standing host.old) }
     requires long { H.tells → IsHonest (H.standing host.old) → 2 ≤ length (of (H.files host.old) file) }
     ensures long { H.tells → IsHonest (H.standing host.old) → OnOk result (2 ≤ length (of (H.files host.new) file)) }
     ensures first { H.tells → IsHonest (H.standing host.old) → OnOk result (take 1 (of (H.files host.new) file) ≡ take 1 (of (H.files host.old) file)) }
     ensures others { H.tells → IsHonest (H.standing host.old) → IsOnly (H.files host.old) file (H.files host.new) }
+    ensures moments { H.tells → IsHonest (H.standing host.old) → Since (OneFile (H.history host.old).now file IsAny) (H.history host.old) (H.history host.new) }
     ensures cause { HasGateCause (H.disk_faults host.old) (H.disk_faults host.new) result }
     ensures whole { IsNeverBroken result }
     ensures standing { H.standing host.new ≡ H.standing host.old }

@@ -1,6 +1,7 @@
 // Bytes of a file at hand.
 ghost use Rattle.std.specs.Prelude.{◌≡◌, ◌+◌, ◌-◌, ◌^◌, ◌<◌, ◌≤◌, min, length, take, drop, IfOk, OnOk, IsTrue};
 ghost use Rattle.hs_host.specs.Files.{of, IsOpen, IsHonest};
+ghost use Rattle.hs_host.specs.Moments.{Since, IsStill};
 ghost use Rattle.hs_gate.specs.Faults.{HasGateCause, IsNeverBroken};
 
 use crate::gate_fault::GateFault;
@@ -76,6 +77,7 @@ impl Window {
         ensures has { OnOk result (Has self.new at need) }
         ensures shows { H.tells → IsHonest (H.standing host.old) → OnOk result (Shows self.new (of (H.files host.new) file)) }
         ensures files { H.tells → IsHonest (H.standing host.old) → H.files host.new ≡ H.files host.old }
+        ensures moments { H.tells → IsHonest (H.standing host.old) → Since (IsStill (H.history host.old).now) (H.history host.old) (H.history host.new) }
         ensures cause { HasGateCause (H.disk_faults host.old) (H.disk_faults host.new) result }
         ensures whole { IsNeverBroken result }
         ensures standing { H.standing host.new ≡ H.standing host.old }
@@ -107,6 +109,7 @@ impl Window {
         ensures count { OnOk result (self.new.count ≡ min left WINDOW_BYTES) }
         ensures shows { H.tells → IsHonest (H.standing host.old) → OnOk result (Shows self.new (of (H.files host.new) file)) }
         ensures files { H.tells → IsHonest (H.standing host.old) → H.files host.new ≡ H.files host.old }
+        ensures moments { H.tells → IsHonest (H.standing host.old) → Since (IsStill (H.history host.old).now) (H.history host.old) (H.history host.new) }
         ensures cause { HasGateCause (H.disk_faults host.old) (H.disk_faults host.new) result }
         ensures whole { IsNeverBroken result }
         ensures standing { H.standing host.new ≡ H.standing host.old }

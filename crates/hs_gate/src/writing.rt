@@ -1,6 +1,9 @@
 // Writes that are brought to the disk.
 ghost use Rattle.std.specs.Prelude.{◌≡◌, ℕ, ◌+◌, ◌^◌, ◌<◌, ◌≤◌, List, [], ◌∷◌, ◌++◌, length, take, IfOk, OnOk};
 ghost use Rattle.hs_host.specs.Files.{of, with_, overwrite, IsOpen, IsHonest};
+ghost use Rattle.hs_host.specs.Fronts.{KeepsFront};
+ghost use Rattle.hs_host.specs.Moments.{Since, OneFile, IsSynced, disk_of};
+ghost use Rattle.hs_gate.specs.Crash.{IsAny, IsWriting, BeginsWith};
 ghost use Rattle.hs_gate.specs.Faults.{HasGateCause, IsNeverBroken};
 ghost use Rattle.hs_gate.specs.Changes.{IsOnly};
 ghost use Rattle.hs_gate.specs.Groups.{eight_bytes};
@@ -23,6 +26,8 @@ pub fn write_synced<H: Host>(
     requires within { H.tells → IsHonest (H.standing host.old) → at ≤ length (of (H.files host.old) file) }
     ensures ok { H.tells → IsHonest (H.standing host.old) → OnOk result (H.files host.new ≡ with_ (H.files host.old) file (overwrite (of (H.files host.old) file) at bytes.now)) }
     ensures others { H.tells → IsHonest (H.standing host.old) → IsOnly (H.files host.old) file (H.files host.new) }
+    ensures moments { H.tells → IsHonest (H.standing host.old) → Since (IsWriting (H.history host.old).now file at bytes.now (of (H.files host.old) file)) (H.history host.old) (H.history host.new) }
+    ensures settled { H.tells → IsHonest (H.standing host.old) → OnOk result (IsSynced (H.history host.old).now file (of (H.files host.new) file) (H.history host.new).now) }
     ensures cause { HasGateCause (H.disk_faults host.old) (H.disk_faults host.new) result }
     ensures whole { IsNeverBroken result }
     ensures standing { H.standing host.new ≡ H.standing host.old }
@@ -49,6 +54,8 @@ pub fn replace_from<H: Host>(
     requires within { H.tells → IsHonest (H.standing host.old) → at ≤ length (of (H.files host.old) file) }
     ensures ok { H.tells → IsHonest (H.standing host.old) → OnOk result (H.files host.new ≡ with_ (H.files host.old) file (take at (of (H.files host.old) file) ++ bytes.now)) }
     ensures others { H.tells → IsHonest (H.standing host.old) → IsOnly (H.files host.old) file (H.files host.new) }
+    ensures moments { H.tells → IsHonest (H.standing host.old) → Since (OneFile (H.history host.old).now file IsAny) (H.history host.old) (H.history host.new) }
+    ensures settled { H.tells → IsHonest (H.standing host.old) → OnOk result (IsSynced (H.history host.old).now file (of (H.files host.new) file) (H.history host.new).now) }
     ensures cause { HasGateCause (H.disk_faults host.old) (H.disk_faults host.new) result }
     ensures whole { IsNeverBroken result }
     ensures standing { H.standing host.new ≡ H.standing host.old }
@@ -64,6 +71,7 @@ pub fn replace_from<H: Host>(
 }
 
 /// A payload behind its length and in front of a closed gate, where these are at most 256 bytes.
+#[inline]
 fn small_group(payload: &[u8]) -> Result<ArrayVec<u8, SMALL_BYTES>, CapacityError>
     ensures { IfOk result (λ bytes. bytes.items ≡ eight_bytes (length payload.now) ++ payload.now ++ 0 ∷ []) }
 {
@@ -86,6 +94,8 @@ pub fn write_payload<H: Host>(
     requires within { H.tells → IsHonest (H.standing host.old) → at ≤ length (of (H.files host.old) file) }
     ensures ok { H.tells → IsHonest (H.standing host.old) → OnOk result (H.files host.new ≡ with_ (H.files host.old) file (overwrite (of (H.files host.old) file) at (eight_bytes (length payload.now) ++ payload.now ++ 0 ∷ []))) }
     ensures others { H.tells → IsHonest (H.standing host.old) → IsOnly (H.files host.old) file (H.files host.new) }
+    ensures moments { H.tells → IsHonest (H.standing host.old) → KeepsFront (disk_of (H.history host.old).now file) at (of (H.files host.old) file) → Since (OneFile (H.history host.old).now file (BeginsWith at (of (H.files host.old) file))) (H.history host.old) (H.history host.new) }
+    ensures settled { H.tells → IsHonest (H.standing host.old) → OnOk result (IsSynced (H.history host.old).now file (of (H.files host.new) file) (H.history host.new).now) }
     ensures cause { HasGateCause (H.disk_faults host.old) (H.disk_faults host.new) result }
     ensures whole { IsNeverBroken result }
     ensures standing { H.standing host.new ≡ H.standing host.old }

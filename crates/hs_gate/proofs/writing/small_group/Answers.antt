@@ -1,4 +1,4 @@
-use Rattle.std.proofs.Common.{◌≡◌, ℕ, List, [], ◌∷◌, ◌++◌, length, ◌∙◌, ap, append_assoc}
+use Rattle.std.proofs.Common.{ℕ, List, [], ◌∷◌, ◌++◌, length, ◌∙◌, ap, append_assoc}
 use Rattle.hs_gate.specs.Groups.{eight_bytes}
 use Rattle.hs_gate.proofs.writing.small_group.Goals as goal
 

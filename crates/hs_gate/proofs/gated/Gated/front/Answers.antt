@@ -8,6 +8,7 @@ use Rattle.hs_gate.specs.Scan.{ending}
 use Rattle.hs_gate.specs.Window.{Shows}
 use Rattle.hs_gate.proofs.Pieces.{from_window}
 use Rattle.hs_gate.proofs.Fronts.{made, front_is, reads_front}
+use Rattle.hs_gate.proofs.Moments.{still_on}
 use Rattle.hs_gate.proofs.gated.Gated.front.Goals as goal
 
 pub returns-clause-reading : goal.returns-clause-reading
@@ -44,3 +45,15 @@ returns-clause-front g c = λ told honest.
     let gated = made c.args.file c.number-epoch.result c.in_ok-found.found.groups c.in_ok-found.found.end in
     let here : IsFront (g.H.Host.files c.args.host.now) gated = record { opened = made_is.0; is = made_is.1 } in
     subst (λ (f : Five (List ℕ)). IsFront f gated) (sym all) here
+
+pub returns-in_err-found-clause-moments : goal.returns-in_err-found-clause-moments
+returns-in_err-found-clause-moments g c = λ told honest.
+    let honest_1 : IsHonest (g.H.Host.standing c.len.new.self) = rw c.len.ensures.standing honest in
+    let honest_2 : IsHonest (g.H.Host.standing c.bring.new.host) = rw c.bring.ensures.standing honest_1 in
+    still_on (still_on (c.len.ensures.moments told honest) (c.bring.ensures.moments told honest_1)) (c.find.ensures.moments told honest_2)
+
+pub returns-clause-moments : goal.returns-clause-moments
+returns-clause-moments g c = λ told honest.
+    let honest_1 : IsHonest (g.H.Host.standing c.len.new.self) = rw c.len.ensures.standing honest in
+    let honest_2 : IsHonest (g.H.Host.standing c.bring.new.host) = rw c.bring.ensures.standing honest_1 in
+    still_on (still_on (c.len.ensures.moments told honest) (c.bring.ensures.moments told honest_1)) (c.find.ensures.moments told honest_2)

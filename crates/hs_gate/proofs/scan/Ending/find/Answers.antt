@@ -2,6 +2,7 @@ use Rattle.std.proofs.Common.{◌-◌, ℕ, List, ◌∙◌, subst, arith}
 use Rattle.hs_host.specs.Files.{Five, of, IsHonest}
 use Rattle.hs_gate.specs.declared.found.Found.TheVariants.{Closed, Group, Broken}
 use Rattle.hs_gate.specs.Window.{Shows, Has}
+use Rattle.hs_gate.proofs.Moments.{still_on}
 use Rattle.hs_gate.proofs.Scanning.{seen_found, ends_closed, ends_broken, goes_on}
 use Rattle.hs_gate.proofs.scan.Ending.find.Goals as goal
 
@@ -25,6 +26,21 @@ returns-in-Broken-clause-found g c = λ told honest.
     let found = seen_found c.bring.new.self file c.from.result.now c.groups.end (c.args.total - c.groups.end - 1) Broken shows has c.from.ensures.bytes (omega (arith, c.requires.all told honest)) c.in-Broken.ensures.found in
     ends_broken c.groups.groups c.groups.end file _ found (c.groups.invariant.left told honest)
 
+pub returns-in_err-bring-clause-moments : goal.returns-in_err-bring-clause-moments
+returns-in_err-bring-clause-moments g c = λ told honest.
+    let later : IsHonest (g.H.Host.standing c.groups.host) = rw c.groups.invariant.standing honest in
+    still_on (c.groups.invariant.moments told honest) (c.bring.ensures.moments told later)
+
+pub returns-in-Closed-clause-moments : goal.returns-in-Closed-clause-moments
+returns-in-Closed-clause-moments g c = λ told honest.
+    let later : IsHonest (g.H.Host.standing c.groups.host) = rw c.groups.invariant.standing honest in
+    still_on (c.groups.invariant.moments told honest) (c.bring.ensures.moments told later)
+
+pub returns-in-Broken-clause-moments : goal.returns-in-Broken-clause-moments
+returns-in-Broken-clause-moments g c = λ told honest.
+    let later : IsHonest (g.H.Host.standing c.groups.host) = rw c.groups.invariant.standing honest in
+    still_on (c.groups.invariant.moments told honest) (c.bring.ensures.moments told later)
+
 pub groups-preserved : goal.groups-preserved
 groups-preserved g c =
     let fits = c.in-Group.ensures.fits in
@@ -38,6 +54,9 @@ groups-preserved g c =
       files = λ told honest.
           let later : IsHonest (g.H.Host.standing c.groups.host) = rw c.groups.invariant.standing honest in
           c.bring.ensures.files told later ∙ c.groups.invariant.files told honest;
+      moments = λ told honest.
+          let later : IsHonest (g.H.Host.standing c.groups.host) = rw c.groups.invariant.standing honest in
+          still_on (c.groups.invariant.moments told honest) (c.bring.ensures.moments told later);
       left = λ told honest.
           let later : IsHonest (g.H.Host.standing c.groups.host) = rw c.groups.invariant.standing honest in
           let file = of (g.H.Host.files c.args.host.now) c.args.file in
