@@ -1,5 +1,5 @@
 -- Fronts of what is to be written.
-use Rattle.std.proofs.Common.{◌≡◌, ℕ, ◌≤◌, List, [], ◌++◌, length, refl, sym, ◌∙◌, ap, arith, append_assoc, append-nil, length-append}
+use Rattle.std.proofs.Common.{◌≡◌, ℕ, ◌≤◌, List, [], ◌∷◌, ◌++◌, length, refl, sym, ◌∙◌, ap, arith, append_assoc, append-nil, length-append}
 use Rattle.hs_top.specs.Machine.{WritesFront}
 
 -- a front of a piece that stands first in what is left is a front of the whole
@@ -43,3 +43,13 @@ handed written before after now rest whole same is = sym (append_assoc after now
 pub extended : (written gathered new old before piece more : List ℕ) → written ++ gathered ≡ old ++ (before ++ piece) → new ≡ gathered ++ more → written ++ new ≡ old ++ (before ++ (piece ++ more))
 extended written gathered new old before piece more is one =
     ap (λ (l : List ℕ). written ++ l) one ∙ sym (append_assoc written gathered more) ∙ ap (λ (l : List ℕ). l ++ more) is ∙ append_assoc old (before ++ piece) more ∙ ap (λ (l : List ℕ). old ++ l) (append_assoc before piece more)
+
+-- a list that is as long as the front of another one begins with it
+pub split_front : {A : Type 0} (all behind front rest : List A) → all ++ behind ≡ front ++ rest → length front ≤ length all → (piece : List A) × ((all ≡ front ++ piece) × (piece ++ behind ≡ rest))
+split_front all behind [] rest is long = (all, (refl, is))
+split_front [] behind (f ∷ front) rest is long = absurd (omega (arith, long))
+split_front {A} (x ∷ all) behind (f ∷ front) rest is long =
+    let first : x ≡ f = cc in
+    let more : all ++ behind ≡ front ++ rest = cc in
+    let parts = split_front all behind front rest more (omega (arith, long)) in
+    (parts.0, (ap (λ (y : A). y ∷ all) first ∙ ap (λ (l : List A). f ∷ l) parts.1.0, parts.1.1))

@@ -1,5 +1,5 @@
 -- That a log gives what the runs before it made.
-use Rattle.std.proofs.Common.{◌≡◌, ℕ, ◌+◌, ◌<◌, ◌≤◌, Bool, true, false, cond, List, [], ◌∷◌, ◌++◌, length, Option, Some, None, Result, Ok, Err, rules, refl, sym, ap, subst, ◌∙◌, arith, length-append}
+use Rattle.std.proofs.Common.{◌≡◌, ℕ, zero, suc, ◌+◌, ◌<◌, ◌≤◌, Bool, true, false, cond, List, [], ◌∷◌, ◌++◌, length, Option, Some, None, Result, Ok, Err, rules, refl, sym, ap, subst, ◌∙◌, arith, length-append}
 use Rattle.std.specs.Prelude.{IfSome, nat_le, nat_lt, ◌==◌, ◌&&◌}
 use Rattle.std.specs.Str.{bytes_eq}
 use Rattle.std.proofs.lemmas.Option.{same_Some}
@@ -37,7 +37,7 @@ through : (r : Option Opened) (n : ℕ) (ts more : List (List ℕ)) (p : Opened)
 through (Some next) n ts more p go is = go next is
 through None n ts more p go is = absurd (cc)
 
-same_Ok : (o p : Opened) → (let r : Result Opened ℕ = Ok o in r) ≡ Ok p → o ≡ p
+pub same_Ok : (o p : Opened) → (let r : Result Opened ℕ = Ok o in r) ≡ Ok p → o ≡ p
 same_Ok o p is = cc
 
 pub replayed_on : (ts more : List (List ℕ)) (o p : Opened) → replayed o ts ≡ Ok p → replayed o (ts ++ more) ≡ replayed p more
@@ -81,6 +81,31 @@ executed_change : (db : Database) (s : Statement) → is_commit (executed db s).
 executed_change db (Create name columns) is = tt
 executed_change db (Insert name row) is = tt
 executed_change db (Select name) is = absurd (selected_quiet db name (table_of db.tables name) is)
+
+-- a commit is counted
+counted_if : (b : Bool) (db : Database) (x y : Outcome) → is_commit x.reply ≡ false → y.database.commits ≡ db.commits + 1 → is_commit (cond b x y).reply ≡ true → (cond b x y).database.commits ≡ db.commits + 1
+counted_if true db x y quiet counts is = absurd (cc)
+counted_if false db x y quiet counts is = counts
+
+created_counts : (db : Database) (name : List ℕ) (columns : List (List ℕ)) (there : Option Table) (repeated : Option (List ℕ)) → is_commit (created db name columns there repeated).reply ≡ true → (created db name columns there repeated).database.commits ≡ db.commits + 1
+created_counts db name columns (Some t) repeated is = absurd (cc)
+created_counts db name columns None (Some c) is = absurd (cc)
+created_counts db name columns None None is =
+    counted_if (nat_le MOST_TABLES (length db.tables)) db (refused db NotBuilt) (committed db (db.tables ++ (name, record { columns = columns; rows = [] }) ∷ []) None) refl refl is
+
+inserted_counts : (db : Database) (name : List ℕ) (row : List Value) (there : Option Table) → is_commit (inserted db name row there).reply ≡ true → (inserted db name row there).database.commits ≡ db.commits + 1
+inserted_counts db name row None is = absurd (cc)
+inserted_counts db name row (Some t) is = turned (length row == length t.columns) is
+  where
+    turned : (b : Bool) → is_commit (cond b (committed db (with_row db.tables name row) (Some 1)) (refused db NotBuilt)).reply ≡ true
+        → (cond b (committed db (with_row db.tables name row) (Some 1)) (refused db NotBuilt)).database.commits ≡ db.commits + 1
+    turned true is = refl
+    turned false is = absurd (cc)
+
+executed_counts : (db : Database) (s : Statement) → is_commit (executed db s).reply ≡ true → (executed db s).database.commits ≡ db.commits + 1
+executed_counts db (Create name columns) is = created_counts db name columns (table_of db.tables name) (first_repeated [] columns) is
+executed_counts db (Insert name row) is = inserted_counts db name row (table_of db.tables name) is
+executed_counts db (Select name) is = absurd (selected_quiet db name (table_of db.tables name) is)
 
 -- the text of a commit makes it again
 module _ (last : Option ℕ) (db : Database) (n : ℕ) (s : Statement) (out : Outcome) (out_is : out ≡ executed db s) where
@@ -152,14 +177,19 @@ step_remade (Entry n name text at) s fit = entry (joined name s.sessions) refl
     entry None is = (refl, fit)
     entry (Some j) is = did_remade n name j text (statement_of text) s refl fit (joined_fits name s.sessions j fit.few is)
 
--- and so does a run
-pub run_remade : (items : List Item) (s : State) → IsFit s → replayed (opened_at s) (texts_of (machine items s)) ≡ Ok (opened_at (steps (length items) (machine items s)).state)
-unfolding texts_of texts steps turn
-run_remade [] s fit = refl
-run_remade (item ∷ items) s fit =
+-- and so do the turns of a run
+pub after_turns_remade : (n : ℕ) (items : List Item) (s : State) → IsFit s → replayed (opened_at s) (texts n (machine items s)) ≡ Ok (opened_at (steps n (machine items s)).state)
+unfolding texts steps turn
+after_turns_remade zero items s fit = refl
+after_turns_remade (suc n) [] s fit = after_turns_remade n [] s fit
+after_turns_remade (suc n) (item ∷ items) s fit =
     let one = step_remade item s fit in
-    replayed_on (step_of item s).texts (texts (length items) (machine items (step_of item s).next)) (opened_at s) (opened_at (step_of item s).next) one.0
-    ∙ run_remade items (step_of item s).next one.1
+    replayed_on (step_of item s).texts (texts n (machine items (step_of item s).next)) (opened_at s) (opened_at (step_of item s).next) one.0
+    ∙ after_turns_remade n items (step_of item s).next one.1
+
+pub run_remade : (items : List Item) (s : State) → IsFit s → replayed (opened_at s) (texts_of (machine items s)) ≡ Ok (opened_at (steps (length items) (machine items s)).state)
+unfolding texts_of
+run_remade items s fit = after_turns_remade (length items) items s fit
 
 -- the texts of an old log give what it gives
 if_unbroken : (groups : Groups) (r : Result Opened ℕ) (p : Opened) → unless_broken groups r ≡ Ok p → r ≡ Ok p
@@ -201,6 +231,28 @@ pub last_session : (ts : List (List ℕ)) (o p : Opened) → IfSome o.last IsSes
 last_session [] o p before is = subst (λ (x : Opened). IfSome x.last IsSession) (same_Ok o p is) before
 last_session (t ∷ ts) o p before is =
     one_session (redone o t) (o.database.commits + 1) ts p (λ next. redone_session o t next before) (λ next made session. last_session ts next p session made) is
+
+-- and there are as many commits
+made_counts : (n : ℕ) (db : Database) (st : Statement) (next : Opened) → if_made n (executed db st) ≡ Some next → next.database.commits ≡ db.commits + 1
+made_counts n db st next is = by_commit (is_commit (executed db st).reply) refl is
+  where
+    by_commit : (b : Bool) → is_commit (executed db st).reply ≡ b → cond b (Some (record { last = Some n; database = (executed db st).database })) None ≡ Some next → next.database.commits ≡ db.commits + 1
+    by_commit true made e = sym (ap (λ (o : Opened). o.database.commits) (same_Some _ _ e)) ∙ executed_counts db st made
+    by_commit false made e = absurd (cc)
+
+redone_counts : (o : Opened) (text : List ℕ) (next : Opened) → redone o text ≡ Some next → next.database.commits ≡ o.database.commits + 1
+redone_counts o text next is =
+    let found = bind_some (commit_of o.last text) (λ c. if_made c.session (executed o.database c.statement)) next is in
+    made_counts found.0.session o.database found.0.statement next found.2
+
+one_counted : (r : Option Opened) (n k : ℕ) (ts : List (List ℕ)) (p : Opened) → ((next : Opened) → r ≡ Some next → next.database.commits ≡ k + 1)
+    → ((next : Opened) → replayed next ts ≡ Ok p → p.database.commits ≡ next.database.commits + length ts) → goes_on r n ts ≡ Ok p → p.database.commits ≡ k + suc (length ts)
+one_counted (Some next) n k ts p first go is = omega (arith, go next is, first next refl)
+one_counted None n k ts p first go is = absurd (cc)
+
+pub commits_of_texts : (ts : List (List ℕ)) (o p : Opened) → replayed o ts ≡ Ok p → p.database.commits ≡ o.database.commits + length ts
+commits_of_texts [] o p is = omega (arith, ap (λ (x : Opened). x.database.commits) (same_Ok o p is))
+commits_of_texts (t ∷ ts) o p is = one_counted (redone o t) (o.database.commits + 1) o.database.commits ts p (λ next. redone_counts o t next) (λ next. commits_of_texts ts next p) is
 
 -- and a whole log gives what its texts give
 pub whole_gives : (new : List ℕ) (ts : List (List ℕ)) (p : Opened) → IsWholeLog new ts → replayed nothing_logged ts ≡ Ok p → opened_of new ≡ Ok p

@@ -1,7 +1,9 @@
 pub mod Command
 pub mod CommitText
+pub mod Crash
 pub mod Database
 pub mod Entries
+pub mod Holding
 pub mod Lines
 pub mod Machine
 pub mod Opening
@@ -10,3 +12,4 @@ pub mod Sessions
 pub mod Spelling
 pub mod Statement
 pub mod Status
+pub mod Told

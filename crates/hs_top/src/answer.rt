@@ -1,7 +1,11 @@
 // Answers one item.
 ghost use Rattle.std.specs.Prelude.{◌≡◌, ◌⊎◌, ℕ, ◌+◌, ◌<◌, ◌≤◌, List, [], ◌++◌, Some, true, false, OnOk, IfErr, IsErrOf, map, codes};
 ghost use Rattle.hs_host.specs.Host.{Rose};
+ghost use Rattle.hs_gate.specs.Crash.{IsCalm};
 ghost use Rattle.hs_host.specs.Files.{IsOpen, IsHonest};
+ghost use Rattle.hs_host.specs.Moments.{Since, IsTold};
+ghost use Rattle.hs_top.specs.Holding.{IsHeld, IsLogging, IsStep, IsTelling};
+ghost use Rattle.hs_top.specs.Told.{IsNamed};
 ghost use Rattle.hs_top.specs.declared.statement.Statement.{Statement};
 ghost use Rattle.hs_top.specs.Statement.{statement_of};
 ghost use Rattle.hs_top.specs.Database.{performed, executed};
@@ -45,6 +49,9 @@ pub fn answer<H: Host>(
     ensures others { H.tells → IsHonest (H.standing host.old) → OnlyLog (H.files host.old) (H.files host.new) }
     ensures done { H.tells → OnOk result (H.written host.new ++ output.new ≡ H.written host.old ++ (output.old ++ (step_of item (state_of work.old)).lines)) }
     ensures front { H.tells → WritesFront (H.written host.old) (H.written host.new) (output.old ++ (step_of item (state_of work.old)).lines) }
+    ensures moments { H.tells → IsHonest (H.standing host.old) → IsCalm (H.history host.old) (H.files host.old) work.old.log.gated → IsNamed item → (least : ℕ) (before : List ℕ) (rest : List (List ℕ)) → IsTelling least before (H.files host.old) (H.written host.old) output.old work.old.database.commits → Since (IsHeld least (texts_in (H.files host.old) ++ ((step_of item (state_of work.old)).texts ++ rest)) before) (H.history host.old) (H.history host.new) }
+    ensures telling { H.tells → IsHonest (H.standing host.old) → IsNamed item → (least : ℕ) (before : List ℕ) → IsTelling least before (H.files host.old) (H.written host.old) output.old work.old.database.commits → OnOk result (IsTelling least before (H.files host.new) (H.written host.new) output.new work.new.database.commits) }
+    ensures calm { H.tells → IsHonest (H.standing host.old) → IsCalm (H.history host.old) (H.files host.old) work.old.log.gated → OnOk result (IsCalm (H.history host.new) (H.files host.new) work.new.log.gated) }
     ensures output_fault { IsErrOf result Status.OutputFault → Rose (H.output_faults host.old) (H.output_faults host.new) }
     ensures disk_fault { IsErrOf result Status.DiskFault → Rose (H.disk_faults host.old) (H.disk_faults host.new) }
     ensures only { IsErrOf result Status.Done ⊎ (IsErrOf result Status.Usage ⊎ (IsErrOf result Status.InputFault ⊎ IsErrOf result Status.InputTooLong)) → ⊥ }
@@ -56,11 +63,12 @@ pub fn answer<H: Host>(
     ensures standing { H.standing host.new ≡ H.standing host.old }
 {
     perform(alloc, item, work, output, host)?;
-    hand_over_much(output, host)
+    hand_over_much(output, host)?;
+    Ok(())
 }
 
 // Does what an item asks for, and gathers its lines.
-#[tactic(auto, using(crate::proofs::Fronts::nothing_yet))]
+#[tactic(auto, using(crate::proofs::Fronts::nothing_yet, hs_host::proofs::Passing::since_none))]
 fn perform<H: Host>(
     alloc: Global,
     item: Item,
@@ -79,6 +87,8 @@ fn perform<H: Host>(
     ensures done { H.tells → OnOk result (H.written host.new ++ output.new ≡ H.written host.old ++ (output.old ++ (step_of item (state_of work.old)).lines)) }
     ensures front { H.tells → WritesFront (H.written host.old) (H.written host.new) (output.old ++ (step_of item (state_of work.old)).lines) }
     ensures output_fault { IsErrOf result Status.OutputFault → Rose (H.output_faults host.old) (H.output_faults host.new) }
+    ensures moments { H.tells → IsHonest (H.standing host.old) → IsCalm (H.history host.old) (H.files host.old) work.old.log.gated → Since (IsStep (H.history host.old).now (output.old ++ (step_of item (state_of work.old)).lines) (H.files host.old).log work.old.log.gated.end (step_of item (state_of work.old)).texts) (H.history host.old) (H.history host.new) }
+    ensures calm { H.tells → IsHonest (H.standing host.old) → IsCalm (H.history host.old) (H.files host.old) work.old.log.gated → OnOk result (IsCalm (H.history host.new) (H.files host.new) work.new.log.gated) }
     ensures disk_fault { IsErrOf result Status.DiskFault → Rose (H.disk_faults host.old) (H.disk_faults host.new) }
     ensures only { IsErrOf result Status.Done ⊎ (IsErrOf result Status.Usage ⊎ (IsErrOf result Status.InputFault ⊎ IsErrOf result Status.InputTooLong)) → ⊥ }
     ensures whole { IfErr result (λ status. is_damaged status ≡ false) }
@@ -108,7 +118,7 @@ fn perform<H: Host>(
 }
 
 // Does what an entry asks for, and gathers its lines.
-#[tactic(auto, using(crate::proofs::Fronts::nothing_yet))]
+#[tactic(auto, using(crate::proofs::Fronts::nothing_yet, hs_host::proofs::Passing::since_none))]
 fn enter<H: Host>(
     alloc: Global,
     number: u64,
@@ -129,6 +139,8 @@ fn enter<H: Host>(
     ensures done { H.tells → OnOk result (H.written host.new ++ output.new ≡ H.written host.old ++ (output.old ++ (step_of (Item.Entry number name.now text.now 0) (state_of work.old)).lines)) }
     ensures front { H.tells → WritesFront (H.written host.old) (H.written host.new) (output.old ++ (step_of (Item.Entry number name.now text.now 0) (state_of work.old)).lines) }
     ensures output_fault { IsErrOf result Status.OutputFault → Rose (H.output_faults host.old) (H.output_faults host.new) }
+    ensures moments { H.tells → IsHonest (H.standing host.old) → IsCalm (H.history host.old) (H.files host.old) work.old.log.gated → Since (IsStep (H.history host.old).now (output.old ++ (step_of (Item.Entry number name.now text.now 0) (state_of work.old)).lines) (H.files host.old).log work.old.log.gated.end (step_of (Item.Entry number name.now text.now 0) (state_of work.old)).texts) (H.history host.old) (H.history host.new) }
+    ensures calm { H.tells → IsHonest (H.standing host.old) → IsCalm (H.history host.old) (H.files host.old) work.old.log.gated → OnOk result (IsCalm (H.history host.new) (H.files host.new) work.new.log.gated) }
     ensures disk_fault { IsErrOf result Status.DiskFault → Rose (H.disk_faults host.old) (H.disk_faults host.new) }
     ensures only { IsErrOf result Status.Done ⊎ (IsErrOf result Status.Usage ⊎ (IsErrOf result Status.InputFault ⊎ IsErrOf result Status.InputTooLong)) → ⊥ }
     ensures whole { IfErr result (λ status. is_damaged status ≡ false) }
@@ -157,7 +169,7 @@ fn enter<H: Host>(
 }
 
 // Executes a statement of a session, and gathers its lines.
-#[tactic(auto, using(crate::proofs::Fronts::nothing_yet))]
+#[tactic(auto, using(crate::proofs::Fronts::nothing_yet, hs_host::proofs::Passing::since_none))]
 fn execute<H: Host>(
     alloc: Global,
     number: u64,
@@ -183,6 +195,8 @@ fn execute<H: Host>(
     ensures done { H.tells → OnOk result (H.written host.new ++ output.new ≡ H.written host.old ++ (output.old ++ outcome_lines number name.now (performed database.old statement))) }
     ensures front { H.tells → WritesFront (H.written host.old) (H.written host.new) (output.old ++ outcome_lines number name.now (performed database.old statement)) }
     ensures output_fault { IsErrOf result Status.OutputFault → Rose (H.output_faults host.old) (H.output_faults host.new) }
+    ensures moments { H.tells → IsHonest (H.standing host.old) → IsCalm (H.history host.old) (H.files host.old) log.old.gated → Since (IsStep (H.history host.old).now (output.old ++ outcome_lines number name.now (performed database.old statement)) (H.files host.old).log log.old.gated.end (logged log.old.last session statement (performed database.old statement).reply)) (H.history host.old) (H.history host.new) }
+    ensures calm { H.tells → IsHonest (H.standing host.old) → IsCalm (H.history host.old) (H.files host.old) log.old.gated → OnOk result (IsCalm (H.history host.new) (H.files host.new) log.new.gated) }
     ensures disk_fault { IsErrOf result Status.DiskFault → Rose (H.disk_faults host.old) (H.disk_faults host.new) }
     ensures only { IsErrOf result Status.Done ⊎ (IsErrOf result Status.Usage ⊎ (IsErrOf result Status.InputFault ⊎ IsErrOf result Status.InputTooLong)) → ⊥ }
     ensures whole { IfErr result (λ status. is_damaged status ≡ false) }
@@ -217,7 +231,7 @@ fn execute<H: Host>(
 }
 
 // Changes the database, and logs the commit before its reply is gathered.
-#[tactic(auto, using(crate::proofs::Fronts::nothing_yet))]
+#[tactic(auto, using(crate::proofs::Fronts::nothing_yet, hs_host::proofs::Passing::since_none))]
 fn change<H: Host>(
     alloc: Global,
     number: u64,
@@ -244,6 +258,8 @@ fn change<H: Host>(
     ensures done { H.tells → OnOk result (H.written host.new ++ output.new ≡ H.written host.old ++ (output.old ++ outcome_lines number name.now (executed database.old statement))) }
     ensures front { H.tells → WritesFront (H.written host.old) (H.written host.new) (output.old ++ outcome_lines number name.now (executed database.old statement)) }
     ensures output_fault { IsErrOf result Status.OutputFault → Rose (H.output_faults host.old) (H.output_faults host.new) }
+    ensures moments { H.tells → IsHonest (H.standing host.old) → IsCalm (H.history host.old) (H.files host.old) log.old.gated → Since (IsLogging (H.history host.old).now (H.files host.old).log log.old.gated.end (logged log.old.last session (Some statement) (executed database.old statement).reply)) (H.history host.old) (H.history host.new) }
+    ensures calm { H.tells → IsHonest (H.standing host.old) → IsCalm (H.history host.old) (H.files host.old) log.old.gated → OnOk result (IsCalm (H.history host.new) (H.files host.new) log.new.gated) }
     ensures disk_fault { IsErrOf result Status.DiskFault → Rose (H.disk_faults host.old) (H.disk_faults host.new) }
     ensures only { IsErrOf result Status.Done ⊎ (IsErrOf result Status.Usage ⊎ (IsErrOf result Status.InputFault ⊎ IsErrOf result Status.InputTooLong)) → ⊥ }
     ensures whole { IfErr result (λ status. is_damaged status ≡ false) }
@@ -279,6 +295,8 @@ fn log_commit<H: Host>(
     ensures logged { H.tells → IsHonest (H.standing host.old) → OnOk result (IsLog (H.files host.new) log.new) }
     ensures texts { H.tells → IsHonest (H.standing host.old) → OnOk result (texts_in (H.files host.new) ≡ texts_in (H.files host.old) ++ if_commit reply.now text.now) }
     ensures others { H.tells → IsHonest (H.standing host.old) → OnlyLog (H.files host.old) (H.files host.new) }
+    ensures moments { H.tells → IsHonest (H.standing host.old) → IsCalm (H.history host.old) (H.files host.old) log.old.gated → Since (IsLogging (H.history host.old).now (H.files host.old).log log.old.gated.end (if_commit reply.now text.now)) (H.history host.old) (H.history host.new) }
+    ensures calm { H.tells → IsHonest (H.standing host.old) → IsCalm (H.history host.old) (H.files host.old) log.old.gated → OnOk result (IsCalm (H.history host.new) (H.files host.new) log.new.gated) }
     ensures disk_fault { IsErrOf result Status.DiskFault → Rose (H.disk_faults host.old) (H.disk_faults host.new) }
     ensures only { IsErrOf result Status.Done ⊎ (IsErrOf result Status.Usage ⊎ (IsErrOf result Status.InputFault ⊎ (IsErrOf result Status.OutputFault ⊎ IsErrOf result Status.InputTooLong))) → ⊥ }
     ensures whole { IfErr result (λ status. is_damaged status ≡ false) }
@@ -296,7 +314,7 @@ fn log_commit<H: Host>(
 }
 
 // Gathers the answer of a query.
-#[tactic(auto, using(crate::proofs::Fronts::nothing_yet))]
+#[tactic(auto, using(crate::proofs::Fronts::nothing_yet, hs_host::proofs::Passing::since_none))]
 fn select<H: Host>(
     alloc: Global,
     number: u64,
@@ -308,6 +326,7 @@ fn select<H: Host>(
 ) -> Result<(), Status>
     ensures done { H.tells → OnOk result (H.written host.new ++ output.new ≡ H.written host.old ++ (output.old ++ outcome_lines number session.now (executed database.now (Statement.Select name)))) }
     ensures front { H.tells → WritesFront (H.written host.old) (H.written host.new) (output.old ++ outcome_lines number session.now (executed database.now (Statement.Select name))) }
+    ensures moments { H.tells → Since (IsTold (H.history host.old).now (output.old ++ outcome_lines number session.now (executed database.now (Statement.Select name)))) (H.history host.old) (H.history host.new) }
     ensures output_fault { IsErrOf result Status.OutputFault → Rose (H.output_faults host.old) (H.output_faults host.new) }
     ensures only { IsErrOf result Status.Done ⊎ (IsErrOf result Status.Usage ⊎ (IsErrOf result Status.InputFault ⊎ (IsErrOf result Status.DiskFault ⊎ IsErrOf result Status.InputTooLong))) → ⊥ }
     ensures whole { IfErr result (λ status. is_damaged status ≡ false) }
@@ -339,6 +358,7 @@ fn push_answer<H: Host>(
 ) -> Result<(), Status>
     ensures done { H.tells → OnOk result (H.written host.new ++ output.new ≡ H.written host.old ++ (output.old ++ answer_lines number session.now table.now)) }
     ensures front { H.tells → WritesFront (H.written host.old) (H.written host.new) (output.old ++ answer_lines number session.now table.now) }
+    ensures moments { H.tells → Since (IsTold (H.history host.old).now (output.old ++ answer_lines number session.now table.now)) (H.history host.old) (H.history host.new) }
     ensures output_fault { IsErrOf result Status.OutputFault → Rose (H.output_faults host.old) (H.output_faults host.new) }
     ensures only { IsErrOf result Status.Done ⊎ (IsErrOf result Status.Usage ⊎ (IsErrOf result Status.InputFault ⊎ (IsErrOf result Status.DiskFault ⊎ IsErrOf result Status.InputTooLong))) → ⊥ }
     ensures whole { IfErr result (λ status. is_damaged status ≡ false) }
@@ -360,7 +380,7 @@ fn push_answer<H: Host>(
 }
 
 // Writes a line for each row.
-#[tactic(auto, using(crate::proofs::Fronts::nothing_yet))]
+#[tactic(auto, using(crate::proofs::Fronts::nothing_yet, hs_host::proofs::Passing::since_none))]
 fn push_rows<H: Host>(
     number: u64,
     session: &str,
@@ -370,6 +390,7 @@ fn push_rows<H: Host>(
 ) -> Result<(), Status>
     ensures done { H.tells → OnOk result (H.written host.new ++ output.new ≡ H.written host.old ++ (output.old ++ rows_lines number session.now (map (λ r. r.now) rows.now))) }
     ensures front { H.tells → WritesFront (H.written host.old) (H.written host.new) (output.old ++ rows_lines number session.now (map (λ r. r.now) rows.now)) }
+    ensures moments { H.tells → Since (IsTold (H.history host.old).now (output.old ++ rows_lines number session.now (map (λ r. r.now) rows.now))) (H.history host.old) (H.history host.new) }
     ensures output_fault { IsErrOf result Status.OutputFault → Rose (H.output_faults host.old) (H.output_faults host.new) }
     ensures only { IsErrOf result Status.Done ⊎ (IsErrOf result Status.Usage ⊎ (IsErrOf result Status.InputFault ⊎ (IsErrOf result Status.DiskFault ⊎ IsErrOf result Status.InputTooLong))) → ⊥ }
     ensures whole { IfErr result (λ status. is_damaged status ≡ false) }

@@ -1,6 +1,7 @@
 // Hands output over to the host.
 ghost use Rattle.std.specs.Prelude.{◌≡◌, ◌⊎◌, ℕ, ◌≤◌, [], List, ◌++◌, false, OnOk, IfErr, IsErrOf};
 ghost use Rattle.hs_host.specs.Host.{HasCause, Rose};
+ghost use Rattle.hs_host.specs.Moments.{Since, IsTold};
 ghost use Rattle.hs_top.specs.Machine.{WritesFront};
 ghost use Rattle.hs_top.specs.Running.{is_damaged};
 
@@ -16,6 +17,7 @@ pub fn hand_over<H: Host>(output: &mut Output, host: &mut H) -> Result<(), Statu
     ensures empty { OnOk result (output.new ≡ []) }
     ensures done { H.tells → OnOk result (H.written host.new ≡ H.written host.old ++ output.old) }
     ensures front { H.tells → WritesFront (H.written host.old) (H.written host.new) output.old }
+    ensures moments { H.tells → Since (IsTold (H.history host.old).now output.old) (H.history host.old) (H.history host.new) }
     ensures output_fault { IsErrOf result Status.OutputFault → Rose (H.output_faults host.old) (H.output_faults host.new) }
     ensures only { IsErrOf result Status.Done ⊎ (IsErrOf result Status.Usage ⊎ (IsErrOf result Status.InputFault ⊎ (IsErrOf result Status.DiskFault ⊎ IsErrOf result Status.InputTooLong))) → ⊥ }
     ensures whole { IfErr result (λ status. is_damaged status ≡ false) }
@@ -32,10 +34,11 @@ pub fn hand_over<H: Host>(output: &mut Output, host: &mut H) -> Result<(), Statu
 }
 
 /// Hands over what is gathered, where it is much.
-#[tactic(auto, using(crate::proofs::Fronts::nothing_yet))]
+#[tactic(auto, using(crate::proofs::Fronts::nothing_yet, hs_host::proofs::Passing::since_none))]
 pub fn hand_over_much<H: Host>(output: &mut Output, host: &mut H) -> Result<(), Status>
     ensures done { H.tells → OnOk result (H.written host.new ++ output.new ≡ H.written host.old ++ output.old) }
     ensures front { H.tells → WritesFront (H.written host.old) (H.written host.new) output.old }
+    ensures moments { H.tells → Since (IsTold (H.history host.old).now output.old) (H.history host.old) (H.history host.new) }
     ensures output_fault { IsErrOf result Status.OutputFault → Rose (H.output_faults host.old) (H.output_faults host.new) }
     ensures only { IsErrOf result Status.Done ⊎ (IsErrOf result Status.Usage ⊎ (IsErrOf result Status.InputFault ⊎ (IsErrOf result Status.DiskFault ⊎ IsErrOf result Status.InputTooLong))) → ⊥ }
     ensures whole { IfErr result (λ status. is_damaged status ≡ false) }
@@ -56,6 +59,7 @@ pub fn hand_over_much<H: Host>(output: &mut Output, host: &mut H) -> Result<(), 
 fn write_all<H: Host>(host: &mut H, bytes: &[u8]) -> Result<(), Status>
     ensures done { H.tells → OnOk result (H.written host.new ≡ H.written host.old ++ bytes.now) }
     ensures front { H.tells → WritesFront (H.written host.old) (H.written host.new) bytes.now }
+    ensures moments { H.tells → Since (IsTold (H.history host.old).now bytes.now) (H.history host.old) (H.history host.new) }
     ensures output_fault { IsErrOf result Status.OutputFault → Rose (H.output_faults host.old) (H.output_faults host.new) }
     ensures only { IsErrOf result Status.Done ⊎ (IsErrOf result Status.Usage ⊎ (IsErrOf result Status.InputFault ⊎ (IsErrOf result Status.DiskFault ⊎ IsErrOf result Status.InputTooLong))) → ⊥ }
     ensures whole { IfErr result (λ status. is_damaged status ≡ false) }

@@ -1,7 +1,11 @@
 // What a run begins with: the database that its log gives.
 ghost use Rattle.std.specs.Prelude.{◌≡◌, ◌⊎◌, ℕ, ◌+◌, ◌*◌, ◌^◌, ◌<◌, ◌≤◌, List, [], true, false, None, Some, Ok, Err, IfOk, IfSome, OnOk, IfErr, IsErrOf, if◌then◌else◌};
 ghost use Rattle.hs_host.specs.Host.{Rose};
+ghost use Rattle.hs_gate.specs.Crash.{IsAny, IsCalm};
+ghost use Rattle.hs_host.specs.Disk.{settled};
 ghost use Rattle.hs_host.specs.Files.{of, IsOpen, IsHonest};
+ghost use Rattle.hs_host.specs.Moments.{Since, OneFile, IsStill, disk_of};
+ghost use Rattle.hs_top.specs.Crash.{IsOpening};
 ghost use Rattle.hs_gate.specs.Gated.{IsFront, IsPlace, TakesPart};
 ghost use Rattle.hs_gate.specs.Groups.{is_born};
 ghost use Rattle.hs_top.specs.CommitText.{IsChange};
@@ -38,6 +42,8 @@ pub fn open_log<H: Host>(alloc: Global, host: &mut H) -> Result<Opening, Status>
     ensures others { H.tells → IsHonest (H.standing host.old) → OnlyLog (H.files host.old) (H.files host.new) }
     ensures sound { IfOk result (λ o. IsSound o.log) }
     ensures room { IfOk result (λ o. HasRoom o.database.commits o.log) }
+    ensures moments { H.tells → IsHonest (H.standing host.old) → disk_of (H.history host.old).now FileKind.Log ≡ settled (H.files host.old).log → Since (IsOpening (H.files host.old).log (H.history host.old).now.out) (H.history host.old) (H.history host.new) }
+    ensures calm { H.tells → IsHonest (H.standing host.old) → IfOk result (λ o. IsCalm (H.history host.new) (H.files host.new) o.log.gated) }
     ensures disk_fault { IsErrOf result Status.DiskFault → Rose (H.disk_faults host.old) (H.disk_faults host.new) }
     ensures only { IsErrOf result Status.Done ⊎ (IsErrOf result Status.Usage ⊎ (IsErrOf result Status.InputFault ⊎ (IsErrOf result Status.OutputFault ⊎ IsErrOf result Status.InputTooLong))) → ⊥ }
     ensures own { IsErrOf result (Status.Damaged Damage.Foreign) → ⊥ }
@@ -65,6 +71,8 @@ fn new_log<H: Host>(alloc: Global, host: &mut H) -> Result<Opening, Status>
     ensures sound { IfOk result (λ o. IsSound o.log) }
     ensures room { IfOk result (λ o. HasRoom o.database.commits o.log) }
     ensures whole { IfErr result (λ status. is_damaged status ≡ false) }
+    ensures moments { H.tells → IsHonest (H.standing host.old) → Since (OneFile (H.history host.old).now FileKind.Log IsAny) (H.history host.old) (H.history host.new) }
+    ensures calm { H.tells → IsHonest (H.standing host.old) → IfOk result (λ o. IsCalm (H.history host.new) (H.files host.new) o.log.gated) }
     ensures disk_fault { IsErrOf result Status.DiskFault → Rose (H.disk_faults host.old) (H.disk_faults host.new) }
     ensures only { IsErrOf result Status.Done ⊎ (IsErrOf result Status.Usage ⊎ (IsErrOf result Status.InputFault ⊎ (IsErrOf result Status.OutputFault ⊎ IsErrOf result Status.InputTooLong))) → ⊥ }
     ensures own { IsErrOf result (Status.Damaged Damage.Foreign) → ⊥ }
@@ -94,6 +102,8 @@ fn read_log<H: Host>(alloc: Global, host: &mut H) -> Result<Opening, Status>
     ensures others { H.tells → IsHonest (H.standing host.old) → OnlyLog (H.files host.old) (H.files host.new) }
     ensures sound { IfOk result (λ o. IsSound o.log) }
     ensures room { IfOk result (λ o. HasRoom o.database.commits o.log) }
+    ensures moments { H.tells → IsHonest (H.standing host.old) → disk_of (H.history host.old).now FileKind.Log ≡ settled (H.files host.old).log → Since (IsOpening (H.files host.old).log (H.history host.old).now.out) (H.history host.old) (H.history host.new) }
+    ensures calm { H.tells → IsHonest (H.standing host.old) → IfOk result (λ o. IsCalm (H.history host.new) (H.files host.new) o.log.gated) }
     ensures disk_fault { IsErrOf result Status.DiskFault → Rose (H.disk_faults host.old) (H.disk_faults host.new) }
     ensures only { IsErrOf result Status.Done ⊎ (IsErrOf result Status.Usage ⊎ (IsErrOf result Status.InputFault ⊎ (IsErrOf result Status.OutputFault ⊎ IsErrOf result Status.InputTooLong))) → ⊥ }
     ensures own { IsErrOf result (Status.Damaged Damage.Foreign) → ⊥ }
@@ -132,6 +142,7 @@ fn replay<H: Host>(alloc: Global, host: &mut H, gated: Gated) -> Result<Opening,
     ensures gated { IfOk result (λ o. o.log.gated ≡ gated) }
     ensures room { IfOk result (λ o. HasRoom o.database.commits o.log) }
     ensures files { H.tells → IsHonest (H.standing host.old) → H.files host.new ≡ H.files host.old }
+    ensures moments { H.tells → IsHonest (H.standing host.old) → Since (IsStill (H.history host.old).now) (H.history host.old) (H.history host.new) }
     ensures disk_fault { IsErrOf result Status.DiskFault → Rose (H.disk_faults host.old) (H.disk_faults host.new) }
     ensures only { IsErrOf result Status.Done ⊎ (IsErrOf result Status.Usage ⊎ (IsErrOf result Status.InputFault ⊎ (IsErrOf result Status.OutputFault ⊎ IsErrOf result Status.InputTooLong))) → ⊥ }
     ensures own { IsErrOf result (Status.Damaged Damage.Foreign) → ⊥ }
@@ -172,6 +183,7 @@ fn next_part<H: Host>(
     ensures next { IfOk result (λ part. IfSome part (λ p. (at + 9 ≤ p.next) × (p.next ≤ opening.now.log.gated.end))) }
     ensures whole { H.tells → IsHonest (H.standing host.old) → IfErr result (λ status. is_damaged status ≡ false) }
     ensures files { H.tells → IsHonest (H.standing host.old) → H.files host.new ≡ H.files host.old }
+    ensures moments { H.tells → IsHonest (H.standing host.old) → Since (IsStill (H.history host.old).now) (H.history host.old) (H.history host.new) }
     ensures disk_fault { IsErrOf result Status.DiskFault → Rose (H.disk_faults host.old) (H.disk_faults host.new) }
     ensures only { IsErrOf result Status.Done ⊎ (IsErrOf result Status.Usage ⊎ (IsErrOf result Status.InputFault ⊎ (IsErrOf result Status.OutputFault ⊎ IsErrOf result Status.InputTooLong))) → ⊥ }
     ensures own { IsErrOf result (Status.Damaged Damage.Foreign) → ⊥ }

@@ -1,9 +1,14 @@
 // The top call.
 ghost use Rattle.std.specs.Prelude.{◌≡◌, ◌⊎◌, ◌↔◌, ℕ, ◌+◌, ◌^◌, ◌<◌, ◌≤◌, List, ◌++◌, true, false, None, Some, Ok, Err, length, OnOk, IfErr, IsErrOf};
 ghost use Rattle.hs_host.specs.Host.{Rose};
+ghost use Rattle.hs_gate.specs.Crash.{IsCalm};
+ghost use Rattle.hs_host.specs.Disk.{settled};
 ghost use Rattle.hs_host.specs.Files.{IsUnnamed, IsOpen, IsForeign, IsHonest};
+ghost use Rattle.hs_host.specs.Moments.{Since, disk_of};
 ghost use Rattle.hs_entries.specs.Items.{items};
 ghost use Rattle.hs_top.specs.Command.{database_of};
+ghost use Rattle.hs_top.specs.Crash.{IsSafeOnceTold};
+ghost use Rattle.hs_top.specs.Holding.{IsHeld};
 ghost use Rattle.hs_top.specs.Machine.{WritesFront, transcript, transcript_within, machine, texts_of};
 ghost use Rattle.hs_top.specs.Opening.{Opened, opened_of, opened_by, begun_with, texts_at, texts_from, ended_with, shown, IsWholeLog, IsDamageOf};
 ghost use Rattle.hs_top.specs.Running.{IsLog, IsSound, HasRoom, OnlyLog, texts_in, is_damaged};
@@ -18,7 +23,7 @@ use crate::sessions::Sessions;
 use crate::status::Status;
 use crate::work::Work;
 use hs_entries::EntryReader;
-use hs_host::{Host, MountFault};
+use hs_host::{FileKind, Host, MountFault};
 use hs_values::Words;
 use std::alloc::Global;
 
@@ -32,7 +37,7 @@ const MOST_INPUT: u64 = 1 << 30;
 /// The status says how the run ended and why. Whatever it is, what was written is a front of the
 /// transcript over the commits of the log. At `Done` it is all of it, the log's groups are the texts of all
 /// commits, and the next run begins with the database with which this one ended.
-#[tactic(auto, using(crate::proofs::Fronts::nothing_yet))]
+#[tactic(auto, using(crate::proofs::Fronts::nothing_yet, hs_host::proofs::Passing::since_none))]
 pub fn run<H: Host>(alloc: Global, words: &Words, host: &mut H) -> Status
     requires { IsUnnamed (H.standing host.old) }
 
@@ -52,6 +57,9 @@ pub fn run<H: Host>(alloc: Global, words: &Words, host: &mut H) -> Status
     ensures log { H.tells → IsHonest (H.standing host.old) → (opened : Opened) → opened_of (H.files host.old).log ≡ Ok opened → result ≡ Status.Done → IsWholeLog (H.files host.new).log (texts_at (H.files host.old).log ++ texts_from opened (H.unread host.old)) }
     ensures reopens { H.tells → IsHonest (H.standing host.old) → (opened : Opened) → opened_of (H.files host.old).log ≡ Ok opened → result ≡ Status.Done → opened_of (H.files host.new).log ≡ Ok (ended_with opened (H.unread host.old)) }
     ensures others { H.tells → IsHonest (H.standing host.old) → OnlyLog (H.files host.old) (H.files host.new) }
+
+    // What a crash leaves, at each moment of the run.
+    ensures crash { H.tells → IsHonest (H.standing host.old) → disk_of (H.history host.old).now FileKind.Log ≡ settled (H.files host.old).log → (opened : Opened) → opened_of (H.files host.old).log ≡ Ok opened → Since (IsSafeOnceTold (H.files host.old).log opened (H.unread host.old) (H.written host.old)) (H.history host.old) (H.history host.new) }
 
     // Faults of the devices.
     ensures input_fault { result ≡ Status.InputFault → Rose (H.input_faults host.old) (H.input_faults host.new) }
@@ -93,6 +101,7 @@ fn mount<H: Host>(name: &str, host: &mut H) -> Result<(), Status>
     ensures foreign { H.tells → IsErrOf result (Status.Damaged Damage.Foreign) → IsForeign (H.standing host.old) }
     ensures own { H.tells → OnOk result (IsForeign (H.standing host.old) → ⊥) }
     ensures files { H.tells → H.files host.new ≡ H.files host.old }
+    ensures history { H.tells → H.history host.new ≡ H.history host.old }
     ensures disk_fault { IsErrOf result Status.DiskFault → Rose (H.disk_faults host.old) (H.disk_faults host.new) }
     ensures disk_later { H.disk_faults host.old ≤ H.disk_faults host.new }
     ensures unread { H.unread host.new ≡ H.unread host.old }
@@ -109,13 +118,14 @@ fn mount<H: Host>(name: &str, host: &mut H) -> Result<(), Status>
 }
 
 // Opens the log, and answers all items.
-#[tactic(auto, using(crate::proofs::Fronts::nothing_yet))]
+#[tactic(auto, using(crate::proofs::Fronts::nothing_yet, hs_host::proofs::Passing::since_none))]
 fn serve<H: Host>(alloc: Global, host: &mut H) -> Result<(), Status>
     requires { IsOpen (H.standing host.old) }
     ensures front { H.tells → IsHonest (H.standing host.old) → WritesFront (H.written host.old) (H.written host.new) (shown (opened_of (H.files host.old).log) (H.unread host.old)) }
     ensures opened { H.tells → IsHonest (H.standing host.old) → (number : ℕ) → opened_of (H.files host.old).log ≡ Err number → OnOk result ⊥ }
     ensures done { H.tells → IsHonest (H.standing host.old) → (opened : Opened) → opened_of (H.files host.old).log ≡ Ok opened → OnOk result (H.written host.new ≡ H.written host.old ++ transcript (begun_with opened) (H.unread host.old)) }
     ensures log { H.tells → IsHonest (H.standing host.old) → (opened : Opened) → opened_of (H.files host.old).log ≡ Ok opened → OnOk result (IsWholeLog (H.files host.new).log (texts_at (H.files host.old).log ++ texts_from opened (H.unread host.old))) }
+    ensures crash { H.tells → IsHonest (H.standing host.old) → disk_of (H.history host.old).now FileKind.Log ≡ settled (H.files host.old).log → (opened : Opened) → opened_of (H.files host.old).log ≡ Ok opened → Since (IsSafeOnceTold (H.files host.old).log opened (H.unread host.old) (H.written host.old)) (H.history host.old) (H.history host.new) }
     ensures before_too_long { H.tells → IsHonest (H.standing host.old) → (opened : Opened) → opened_of (H.files host.old).log ≡ Ok opened → IsErrOf result Status.InputTooLong → H.written host.new ≡ H.written host.old ++ transcript_within (2 ^ 30) (begun_with opened) (H.unread host.old) }
     ensures damaged { H.tells → IsHonest (H.standing host.old) → (damage : Damage) → IsErrOf result (Status.Damaged damage) → IsDamageOf (opened_of (H.files host.old).log) damage }
     ensures undamaged { H.tells → IsHonest (H.standing host.old) → (number : ℕ) → opened_of (H.files host.old).log ≡ Err number → IfErr result (λ status. (status ≡ Status.Damaged (Damage.Log number)) ⊎ ((status ≡ Status.DiskFault) ⊎ (status ≡ Status.NoMemory))) }
@@ -147,10 +157,13 @@ fn answer_all<H: Host>(alloc: Global, opening: Opening, host: &mut H) -> Result<
     requires sound { IsSound opening.log }
     requires room { HasRoom opening.database.commits opening.log }
     requires logged { H.tells → IsHonest (H.standing host.old) → IsLog (H.files host.old) opening.log }
+    requires calm { H.tells → IsHonest (H.standing host.old) → IsCalm (H.history host.old) (H.files host.old) opening.log.gated }
+    requires counted { H.tells → IsHonest (H.standing host.old) → opening.database.commits ≡ length (texts_in (H.files host.old)) }
     ensures front { H.tells → WritesFront (H.written host.old) (H.written host.new) (transcript (begun_with (opened_by opening)) (H.unread host.old)) }
     ensures done { H.tells → OnOk result (H.written host.new ≡ H.written host.old ++ transcript (begun_with (opened_by opening)) (H.unread host.old)) }
     ensures before_too_long { H.tells → IsErrOf result Status.InputTooLong → H.written host.new ≡ H.written host.old ++ transcript_within (2 ^ 30) (begun_with (opened_by opening)) (H.unread host.old) }
     ensures log { H.tells → IsHonest (H.standing host.old) → OnOk result (IsWholeLog (H.files host.new).log (texts_in (H.files host.old) ++ texts_from (opened_by opening) (H.unread host.old))) }
+    ensures moments { H.tells → IsHonest (H.standing host.old) → Since (IsHeld (length (texts_in (H.files host.old))) (texts_in (H.files host.old) ++ texts_from (opened_by opening) (H.unread host.old)) (H.written host.old)) (H.history host.old) (H.history host.new) }
     ensures whole { IfErr result (λ status. is_damaged status ≡ false) }
     ensures others { H.tells → IsHonest (H.standing host.old) → OnlyLog (H.files host.old) (H.files host.new) }
     ensures done_within { H.tells → OnOk result (length (H.unread host.old) ≤ 2 ^ 30) }

@@ -1,7 +1,10 @@
 // The program at work: one turn after another.
 ghost use Rattle.std.specs.Prelude.{◌≡◌, ◌⊎◌, ℕ, ◌+◌, ◌<◌, ◌≤◌, List, [], ◌++◌, None, true, false, IfOk, OnOk, IfErr, IsErrOf};
 ghost use Rattle.hs_host.specs.Host.{Rose};
+ghost use Rattle.hs_gate.specs.Crash.{IsCalm};
 ghost use Rattle.hs_host.specs.Files.{IsOpen, IsHonest};
+ghost use Rattle.hs_host.specs.Moments.{Since, IsStill, IsTold};
+ghost use Rattle.hs_top.specs.Holding.{IsHeld, IsTelling};
 ghost use Rattle.hs_entries.specs.Left.{TakesFirst, TakesWhole, RunsOut, IsBeyond, KeepsRoom};
 ghost use Rattle.hs_entries.specs.Reader.{ahead, kept, left, left_items, left_whole, room};
 ghost use Rattle.hs_top.specs.Machine.{WritesFront, rest_of, lines_of, texts_of};
@@ -42,6 +45,9 @@ impl Running {
         ensures texts { H.tells → IsHonest (H.standing host.old) → OnOk result (texts_in (H.files host.new) ++ texts_of (machine_of self.new (H.unread host.new)) ≡ texts_in (H.files host.old) ++ texts_of (machine_of self.old (H.unread host.old))) }
         ensures logged { H.tells → IsHonest (H.standing host.old) → OnOk result (IsLog (H.files host.new) self.new.work.log) }
         ensures others { H.tells → IsHonest (H.standing host.old) → OnlyLog (H.files host.old) (H.files host.new) }
+        ensures moments { H.tells → IsHonest (H.standing host.old) → IsCalm (H.history host.old) (H.files host.old) self.old.work.log.gated → (least : ℕ) (before : List ℕ) → IsTelling least before (H.files host.old) (H.written host.old) self.old.output self.old.work.database.commits → Since (IsHeld least (texts_in (H.files host.old) ++ texts_of (machine_of self.old (H.unread host.old))) before) (H.history host.old) (H.history host.new) }
+        ensures calm { H.tells → IsHonest (H.standing host.old) → IsCalm (H.history host.old) (H.files host.old) self.old.work.log.gated → OnOk result (IsCalm (H.history host.new) (H.files host.new) self.new.work.log.gated) }
+        ensures telling { H.tells → IsHonest (H.standing host.old) → (least : ℕ) (before : List ℕ) → IsTelling least before (H.files host.old) (H.written host.old) self.old.output self.old.work.database.commits → OnOk result (IsTelling least before (H.files host.new) (H.written host.new) self.new.output self.new.work.database.commits) }
         ensures count { H.tells → OnOk result (KeepsRoom (left self.old.reader (H.unread host.old)) (left self.new.reader (H.unread host.new))) }
         ensures end { H.tells → IfOk result (λ more. more ≡ false → ahead self.new.reader ++ H.unread host.new ≡ []) }
         ensures used { IfOk result (λ more. more ≡ true → room self.new.reader < room self.old.reader) }
@@ -95,6 +101,7 @@ fn next_item<H: Host>(
     ensures done { H.tells → OnOk result (H.written host.new ++ output.new ≡ H.written host.old ++ output.old) }
     ensures all { H.tells → IsErrOf result Status.InputTooLong → H.written host.new ≡ H.written host.old ++ output.old }
     ensures front { H.tells → WritesFront (H.written host.old) (H.written host.new) output.old }
+    ensures moments { H.tells → Since (IsTold (H.history host.old).now output.old) (H.history host.old) (H.history host.new) }
     ensures input_fault { IsErrOf result Status.InputFault → Rose (H.input_faults host.old) (H.input_faults host.new) }
     ensures output_fault { IsErrOf result Status.OutputFault → Rose (H.output_faults host.old) (H.output_faults host.new) }
     ensures only { IsErrOf result Status.Done ⊎ (IsErrOf result Status.Usage ⊎ IsErrOf result Status.DiskFault) → ⊥ }
@@ -118,7 +125,7 @@ fn next_item<H: Host>(
 }
 
 // Hands over what is gathered, unless the next item is at hand.
-#[tactic(auto, using(crate::proofs::Fronts::nothing_yet))]
+#[tactic(auto, using(crate::proofs::Fronts::nothing_yet, hs_host::proofs::Passing::since_none))]
 fn hand_over_unless_ready<H: Host>(
     reader: &mut EntryReader,
     output: &mut Output,
@@ -129,6 +136,7 @@ fn hand_over_unless_ready<H: Host>(
     ensures kept { kept reader.new ≡ kept reader.old }
     ensures done { H.tells → OnOk result (H.written host.new ++ output.new ≡ H.written host.old ++ output.old) }
     ensures front { H.tells → WritesFront (H.written host.old) (H.written host.new) output.old }
+    ensures moments { H.tells → Since (IsTold (H.history host.old).now output.old) (H.history host.old) (H.history host.new) }
     ensures output_fault { IsErrOf result Status.OutputFault → Rose (H.output_faults host.old) (H.output_faults host.new) }
     ensures only { IsErrOf result Status.Done ⊎ (IsErrOf result Status.Usage ⊎ (IsErrOf result Status.InputFault ⊎ (IsErrOf result Status.DiskFault ⊎ IsErrOf result Status.InputTooLong))) → ⊥ }
     ensures whole { IfErr result (λ status. is_damaged status ≡ false) }
@@ -155,6 +163,7 @@ fn read_next<H: Host>(reader: &mut EntryReader, host: &mut H) -> Result<Item, In
     ensures end { H.tells → IfOk result (λ item. item ≡ Item.End → ahead reader.new ++ H.unread host.new ≡ []) }
     ensures used { IfOk result (λ item. is_end item ≡ false → room reader.new < room reader.old) }
     ensures too_long { H.tells → IsErrOf result InputFault.TooLong → IsBeyond (left reader.old (H.unread host.old)) }
+    ensures moments { H.tells → Since (IsStill (H.history host.old).now) (H.history host.old) (H.history host.new) }
     ensures fault { IsErrOf result InputFault.Fault → Rose (H.input_faults host.old) (H.input_faults host.new) }
     ensures later { H.input_faults host.old ≤ H.input_faults host.new }
     ensures written { H.written host.new ≡ H.written host.old }

@@ -1,11 +1,13 @@
 // The log of the commits.
 ghost use Rattle.std.specs.Prelude.{◌≡◌, ◌⊎◌, ◌≤◌, ◌+◌, ◌∷◌, ◌++◌, [], false, Some, OnOk, IfErr, IsErrOf};
 ghost use Rattle.hs_host.specs.Host.{Rose};
+ghost use Rattle.hs_gate.specs.Crash.{IsCalm, IsBeforeOrAfter};
 ghost use Rattle.hs_host.specs.Files.{IsOpen, IsHonest};
+ghost use Rattle.hs_host.specs.Moments.{Since, OneFile};
 
 use crate::status::Status;
 use hs_gate::Gated;
-use hs_host::Host;
+use hs_host::{FileKind, Host};
 use hs_log::log_commit;
 use hs_values::Bytes;
 
@@ -42,6 +44,8 @@ impl StatementLog {
         ensures logged { H.tells → IsHonest (H.standing host.old) → OnOk result (IsLog (H.files host.new) self.new) }
         ensures texts { H.tells → IsHonest (H.standing host.old) → OnOk result (texts_in (H.files host.new) ≡ texts_in (H.files host.old) ++ text.now ∷ []) }
         ensures others { H.tells → IsHonest (H.standing host.old) → OnlyLog (H.files host.old) (H.files host.new) }
+        ensures moments { H.tells → IsHonest (H.standing host.old) → IsCalm (H.history host.old) (H.files host.old) self.old.gated → Since (OneFile (H.history host.old).now FileKind.Log (IsBeforeOrAfter (H.files host.old).log self.old.gated.end text.now)) (H.history host.old) (H.history host.new) }
+        ensures calm { H.tells → IsHonest (H.standing host.old) → OnOk result (IsCalm (H.history host.new) (H.files host.new) self.new.gated) }
         ensures disk_fault { IsErrOf result Status.DiskFault → Rose (H.disk_faults host.old) (H.disk_faults host.new) }
         ensures only { IsErrOf result Status.Done ⊎ (IsErrOf result Status.Usage ⊎ (IsErrOf result Status.InputFault ⊎ (IsErrOf result Status.OutputFault ⊎ IsErrOf result Status.InputTooLong))) → ⊥ }
         ensures whole { IfErr result (λ status. is_damaged status ≡ false) }

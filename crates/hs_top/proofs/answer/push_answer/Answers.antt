@@ -4,6 +4,9 @@ use Rattle.hs_values.specs.Sorted.{sorted_rows}
 use Rattle.hs_top.specs.declared.reply.Reply.TheVariants.{Done}
 use Rattle.hs_top.specs.Lines.{rows_lines, reply_line, answer_lines}
 use Rattle.hs_top.specs.Machine.{WritesFront}
+use Rattle.hs_host.specs.Moments.{Since, IsTold}
+use Rattle.hs_host.proofs.Passing.{since_none}
+use Rattle.hs_top.proofs.Holding.{told_and}
 use Rattle.hs_top.proofs.Fronts.{front_more, nothing_yet, extended}
 use Rattle.hs_top.proofs.answer.push_answer.Goals as goal
 use Rattle.hs_top.proofs.answer.push_answer.Goals.{After-push_rows}
@@ -35,3 +38,21 @@ returns-clause-done g c = λ told.
     let rows = ap (λ (rows : List (List Value)). g.H.Host.written c.args.host.now ++ (c.args.output.now ++ rows_lines c.args.number c.args.session.now rows)) (in_order g (goal.at.returns-clause-done g c).After-push_rows) in
     let reply = ap (λ (n : ℕ). c.push_rows.new.output ++ reply_line c.args.number c.args.session.now (Done (Some n) None)) c.len.ensures in
     extended (g.H.Host.written c.push_rows.new.host) c.push_rows.new.output c.push_reply.new.self (g.H.Host.written c.args.host.now) c.args.output.now (rows_lines c.args.number c.args.session.now (sorted_rows c.args.table.now.rows)) _ (c.in_ok-push_rows.ensures.done told ∙ rows) (c.in_ok-push_reply.ensures ∙ reply)
+
+told_rows : (g : _) (c : After-push_rows g) → g.H.Source.tells
+    → Since (IsTold (g.H.Host.history c.args.host.now).now (c.args.output.now ++ answer_lines c.args.number c.args.session.now c.args.table.now)) (g.H.Host.history c.args.host.now) (g.H.Host.history c.push_rows.new.host)
+told_rows g c told =
+    let Q : List (List Value) → Type 0 = λ rows. Since (IsTold (g.H.Host.history c.args.host.now).now (c.args.output.now ++ rows_lines c.args.number c.args.session.now rows)) (g.H.Host.history c.args.host.now) (g.H.Host.history c.push_rows.new.host) in
+    told_and c.args.output.now _ _ (subst Q (in_order g c) (c.push_rows.ensures.moments told))
+
+pub returns-in_err-rows-clause-moments : goal.returns-in_err-rows-clause-moments
+returns-in_err-rows-clause-moments g c = λ told. since_none _ _
+
+pub returns-in_err-push_rows-clause-moments : goal.returns-in_err-push_rows-clause-moments
+returns-in_err-push_rows-clause-moments g c = told_rows g (goal.at.returns-in_err-push_rows-clause-moments g c).After-push_rows
+
+pub returns-in_err-push_reply-clause-moments : goal.returns-in_err-push_reply-clause-moments
+returns-in_err-push_reply-clause-moments g c = told_rows g (goal.at.returns-in_err-push_reply-clause-moments g c).After-push_rows
+
+pub returns-clause-moments : goal.returns-clause-moments
+returns-clause-moments g c = told_rows g (goal.at.returns-clause-moments g c).After-push_rows

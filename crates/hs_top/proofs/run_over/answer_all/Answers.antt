@@ -1,19 +1,24 @@
-use Rattle.std.proofs.Common.{◌≡◌, ◌++◌, ◌^◌, List, ℕ, length, take, refl, sym, ap, subst, ◌∙◌, arith, append-nil}
-use Rattle.hs_host.specs.Files.{Five, IsHonest}
+use Rattle.std.proofs.Common.{◌≡◌, ◌++◌, ◌^◌, List, [], ℕ, length, take, refl, sym, ap, subst, ◌∙◌, arith, append-nil}
+use Rattle.hs_host.specs.Files.{Five, IsHonest, with_}
 use Rattle.hs_entries.specs.declared.item.Item.{Item}
 use Rattle.hs_entries.specs.Items.{items, whole_items}
 use Rattle.hs_entries.specs.Reader.{left_items, left_whole}
 use Rattle.hs_top.specs.Lines.{opened_line}
 use Rattle.hs_top.specs.Machine.{State, WritesFront, machine, transcript, rest_of, lines_of, texts_of}
 use Rattle.hs_top.specs.Opening.{opened_by, begun_with, texts_from, IsWholeLog}
-use Rattle.hs_top.specs.Running.{machine_of, state_of, texts_in}
+use Rattle.hs_host.specs.declared.file_kind.FileKind.TheVariants.{Log}
+use Rattle.hs_top.specs.Running.{machine_of, state_of, texts_in, IsTooLong}
+use Rattle.hs_host.specs.Moments.{Since}
+use Rattle.hs_host.proofs.Passing.{since_none, since_weaker, since_join}
+use Rattle.hs_top.specs.Holding.{IsHeld, IsGathered}
+use Rattle.hs_top.proofs.Holding.{first_gathered, last_gathered, held_telling}
 use Rattle.hs_top.proofs.Fronts.{nothing_yet, front_after}
 use Rattle.hs_top.proofs.Logged.{whole_log}
 use Rattle.hs_top.proofs.Runs.{rest_of-over, texts_of-over}
 use Rattle.hs_top.proofs.Taken.{fresh_items, fresh_whole}
 use Rattle.hs_top.proofs.Turns.{ended}
 use Rattle.hs_top.proofs.run_over.answer_all.Goals as goal
-use Rattle.hs_top.proofs.run_over.answer_all.Goals.{After-new-2, After-hand_over}
+use Rattle.hs_top.proofs.run_over.answer_all.Goals.{After-new-2, After-turn, After-hand_over}
 
 pub returns-in_err-push_opened-clause-front : goal.returns-in_err-push_opened-clause-front
 returns-in_err-push_opened-clause-front g c = λ told. nothing_yet _ _
@@ -52,6 +57,13 @@ loop-running-init g c =
           ap (λ (is : List Item). texts ++ texts_of (machine is work)) (first_items g at)
           ∙ ap (λ (s : State). texts ++ texts_of (machine (items 1 unread) s)) (first_state g at);
       logged = c.requires.logged;
+      calm = c.requires.calm;
+      telling = λ told honest. record {
+        enough = omega arith;
+        counted = c.requires.counted told honest;
+        gathered = first_gathered written c.push_opened.new.self c.args.opening.database.commits c.args.opening.database.commits (first_line g at);
+      };
+      moments = λ told honest. since_none _ _;
       others = λ told honest. refl;
       grown = λ told. omega arith;
       count = λ told. omega (arith, c.new.ensures.room, ap length (ap (λ (l : List ℕ). l ++ unread) c.new.ensures.ahead));
@@ -93,3 +105,72 @@ returns-clause-log g c = λ told honest.
     ∙ c.in_ok-turn.ensures.texts told still ∙ c.loop-running.invariant.texts told honest in
     let at_turn = subst (IsWholeLog (g.H.Host.files c.turn.new.host).log) all (whole_log (g.H.Host.files c.turn.new.host) c.turn.new.self.work.log c.in_ok-turn.ensures.sane.work.sound (c.in_ok-turn.ensures.logged told still)) in
     subst (λ (f : Five (List ℕ)). IsWholeLog f.log (texts_in (g.H.Host.files c.args.host.now) ++ texts_from (opened_by c.args.opening) (g.H.Source.unread c.args.host.now))) (sym c.hand_over.ensures.files) at_turn
+
+-- the moments of one turn more
+turned : (g : _) (c : After-turn g) → g.H.Source.tells → IsHonest (g.H.Host.standing c.args.host.now)
+    → Since (IsHeld (length (texts_in (g.H.Host.files c.args.host.now))) (texts_in (g.H.Host.files c.args.host.now) ++ texts_from (opened_by c.args.opening) (g.H.Source.unread c.args.host.now)) (g.H.Host.written c.args.host.now))
+    (g.H.Host.history c.args.host.now) (g.H.Host.history c.turn.new.host)
+turned g c told honest =
+    let i = c.loop-running.invariant in
+    let still : IsHonest (g.H.Host.standing c.loop-running.host) = subst IsHonest (sym i.standing) honest in
+    since_join (i.moments told honest)
+    (subst (λ (ts : List (List ℕ)). Since (IsHeld (length (texts_in (g.H.Host.files c.args.host.now))) ts (g.H.Host.written c.args.host.now)) (g.H.Host.history c.loop-running.host) (g.H.Host.history c.turn.new.host)) (i.texts told honest)
+    (c.turn.ensures.moments told still (i.calm told honest) _ _ (i.telling told honest)))
+
+-- and until the last line is handed over
+ended_moments : (g : _) (c : After-hand_over g) → g.H.Source.tells → IsHonest (g.H.Host.standing c.args.host.now)
+    → Since (IsHeld (length (texts_in (g.H.Host.files c.args.host.now))) (texts_in (g.H.Host.files c.args.host.now) ++ texts_from (opened_by c.args.opening) (g.H.Source.unread c.args.host.now)) (g.H.Host.written c.args.host.now))
+    (g.H.Host.history c.args.host.now) (g.H.Host.history c.hand_over.new.host)
+ended_moments g c told honest =
+    let i = c.loop-running.invariant in
+    let ok = c.in_ok-turn.ensures in
+    let least = length (texts_in (g.H.Host.files c.args.host.now)) in
+    let before = g.H.Host.written c.args.host.now in
+    let work = c.turn.new.self.work in
+    let files = g.H.Host.files c.turn.new.host in
+    let still : IsHonest (g.H.Host.standing c.loop-running.host) = subst IsHonest (sym i.standing) honest in
+    let t = ok.telling told still least before (i.telling told honest) in
+    let over = texts_of-over _ (state_of work) (ok.over told c.if-branch.false) in
+    let texts : texts_in files ++ [] ≡ texts_in (g.H.Host.files c.args.host.now) ++ texts_from (opened_by c.args.opening) (g.H.Source.unread c.args.host.now) =
+    sym (ap (λ (l : List (List ℕ)). texts_in files ++ l) over) ∙ ok.texts told still ∙ i.texts told honest in
+    let out = sym (g.met.H.Host.output_now c.turn.new.host told) in
+    let all = subst (λ (o : List ℕ). IsGathered before o c.push_closed.new.self work.database.commits) out (last_gathered before _ c.turn.new.self.output c.push_closed.new.self work.database.commits work.database.commits c.in_ok-push_closed.ensures t.gathered) in
+    since_join (turned g (goal.at.After-hand_over g c).After-turn told honest)
+    (since_weaker (c.hand_over.ensures.moments told)
+    (λ m telling. subst (λ (ts : List (List ℕ)). IsHeld least ts before m) texts
+    (held_telling files (g.H.Host.history c.turn.new.host) work.log ok.sane.work.sound (ok.logged told still) (ok.calm told still (i.calm told honest)) least before work.database.commits t.enough t.counted c.push_closed.new.self [] m all telling)))
+
+pub returns-in_err-turn-clause-moments : goal.returns-in_err-turn-clause-moments
+returns-in_err-turn-clause-moments g c = turned g (goal.at.returns-in_err-turn-clause-moments g c).After-turn
+
+pub returns-in_err-push_closed-clause-moments : goal.returns-in_err-push_closed-clause-moments
+returns-in_err-push_closed-clause-moments g c = turned g (goal.at.returns-in_err-push_closed-clause-moments g c).After-turn
+
+pub returns-in_err-hand_over-clause-moments : goal.returns-in_err-hand_over-clause-moments
+returns-in_err-hand_over-clause-moments g c = ended_moments g (goal.at.returns-in_err-hand_over-clause-moments g c).After-hand_over
+
+pub returns-clause-moments : goal.returns-clause-moments
+returns-clause-moments g c = ended_moments g (goal.at.returns-clause-moments g c).After-hand_over
+
+pub loop-running-preserved : goal.loop-running-preserved
+loop-running-preserved g c =
+    let i = c.loop-running.invariant in
+    let ok = c.in_ok-turn.ensures in
+    let still : IsHonest (g.H.Host.standing c.args.host.now) → IsHonest (g.H.Host.standing c.loop-running.host) = λ honest. subst IsHonest (sym i.standing) honest in
+    record {
+      sane = ok.sane;
+      so_far = λ told. ok.done told ∙ i.so_far told;
+      within = λ told more. let before : IsTooLong c.loop-running.running (g.H.Source.unread c.loop-running.host) = omega (arith, more, ok.count told) in ok.within told before ∙ i.within told before;
+      texts = λ told honest. ok.texts told (still honest) ∙ i.texts told honest;
+      logged = λ told honest. ok.logged told (still honest);
+      calm = λ told honest. ok.calm told (still honest) (i.calm told honest);
+      telling = λ told honest. ok.telling told (still honest) _ _ (i.telling told honest);
+      moments = turned g (goal.at.loop-running-preserved g c).After-turn;
+      others = λ told honest. c.turn.ensures.others told (still honest) ∙ ap (λ (f : Five (List ℕ)). with_ f Log (g.H.Host.files c.turn.new.host).log) (i.others told honest);
+      grown = λ told. omega (arith, i.grown told, (c.turn.ensures.front told).grown);
+      count = λ told. omega (arith, i.count told, ok.count told);
+      in_later = omega (arith, i.in_later, c.turn.ensures.input_later);
+      out_later = omega (arith, i.out_later, c.turn.ensures.output_later);
+      disk_later = omega (arith, i.disk_later, c.turn.ensures.disk_later);
+      standing = c.turn.ensures.standing ∙ i.standing;
+    }

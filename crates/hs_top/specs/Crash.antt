@@ -1,0 +1,39 @@
+-- What a crash leaves of the database while a run is at work.
+use Rattle.std.specs.Prelude.{◌≡◌, ◌⊎◌, ℕ, false, List, ◌++◌, Ok}
+use Rattle.hs_entries.specs.Items.{items}
+use Rattle.hs_gate.specs.Groups.{is_born}
+use Rattle.hs_host.specs.Disk.{Leaves}
+use Rattle.hs_host.specs.Moments.{Moment, disk_of}
+use Rattle.hs_host.specs.declared.file_kind.FileKind.TheVariants.{Log}
+use Rattle.hs_top.specs.Machine.{machine, steps}
+use Rattle.hs_top.specs.Opening.{Opened, opened_of, opened_at, begun_with}
+use Rattle.hs_top.specs.Told.{TellsAtMost}
+
+-- what a log gives that has all commits of the first so many turns of a run
+abbrev pub opened_after : ℕ → Opened → List ℕ → Opened
+opened_after turns opened input = opened_at (steps turns (machine (items 1 input) (begun_with opened))).state
+
+-- what was written behind an output tells of no later commit than this one
+pub record TellsBehind (before out : List ℕ) (most : ℕ) : Type 0 where
+  pub written : List ℕ
+  pub is : out ≡ before ++ written
+  pub told : TellsAtMost written most
+
+-- The next run over these bytes of a log begins with what this one had made after some number of its turns, and no later
+-- commit was told of.
+pub record Survives (opened : Opened) (input before out log : List ℕ) : Type 0 where
+  pub turns : ℕ
+  pub reopens : opened_of log ≡ Ok (opened_after turns opened input)
+  pub told : TellsBehind before out (opened_after turns opened input).database.commits
+
+-- so it is whatever a crash at this moment leaves of the log
+abbrev pub IsSafe : Opened → List ℕ → List ℕ → Moment → Type 0
+IsSafe opened input before m = (log : List ℕ) → Leaves (disk_of m Log) log → Survives opened input before m.out log
+
+-- A log that wasn't born is made anew first. What a crash leaves of it may be anything as long as nothing is told.
+abbrev pub IsSafeOnceTold : List ℕ → Opened → List ℕ → List ℕ → Moment → Type 0
+IsSafeOnceTold old opened input before m = IsSafe opened input before m ⊎ ((is_born old ≡ false) × (m.out ≡ before))
+
+-- While a log is opened nothing is told, and whatever a crash leaves of a born one gives what it gives.
+abbrev pub IsOpening : List ℕ → List ℕ → Moment → Type 0
+IsOpening old before m = (m.out ≡ before) × ((is_born old ≡ false) ⊎ ((log : List ℕ) → Leaves (disk_of m Log) log → opened_of log ≡ opened_of old))
