@@ -37,6 +37,10 @@ const MOST_INPUT: u64 = 1 << 30;
 /// The status says how the run ended and why. Whatever it is, what was written is a front of the
 /// transcript over the commits of the log. At `Done` it is all of it, the log's groups are the texts of all
 /// commits, and the next run begins with the database with which this one ended.
+///
+/// A crash at any moment of the run leaves a log with which the next run begins after some number of this one's
+/// turns, and with all commits that were told of by then. Only while a log is first made, before anything is
+/// written, may it leave another.
 #[tactic(auto, using(crate::proofs::Fronts::nothing_yet, hs_host::proofs::Passing::since_none))]
 pub fn run<H: Host>(alloc: Global, words: &Words, host: &mut H) -> Status
     requires { IsUnnamed (H.standing host.old) }
