@@ -7,6 +7,8 @@ use Rattle.hs_values.specs.Sorted.{sorted_rows}
 use Rattle.hs_top.specs.declared.statement.Statement.{Statement}
 use Rattle.hs_top.specs.declared.statement.Statement.TheVariants.{Create, Insert, Select}
 use Rattle.hs_top.specs.declared.table.Table.{Table}
+use Rattle.hs_top.specs.declared.table.Adding.{Adding}
+use Rattle.hs_top.specs.declared.table.Adding.TheVariants.{Added, NoTable, OtherLength}
 use Rattle.hs_top.specs.declared.table.TheConstants.{MOST_TABLES}
 use Rattle.hs_top.specs.declared.database.Database.{Database}
 use Rattle.hs_top.specs.declared.reply.Reply.{Reply}
@@ -27,6 +29,16 @@ table_of (t ∷ ts) name = if bytes_eq name t.0 then Some t.1 else table_of ts n
 abbrev pub with_row : Entries → List ℕ → List Value → Entries
 with_row [] name row = []
 with_row (t ∷ ts) name row = if bytes_eq name t.0 then (t.0, record t.1 { rows = t.1.rows ++ row ∷ [] }) ∷ ts else t ∷ with_row ts name row
+
+-- how the adding of a row goes, by the table of its name
+abbrev pub adding_of : Option Table → List Value → Adding
+adding_of None row = NoTable
+adding_of (Some table) row = if length row == length table.columns then Added else OtherLength
+
+-- and the tables after it
+abbrev pub tables_after : Adding → Entries → List ℕ → List Value → Entries
+tables_after Added tables name row = with_row tables name row
+tables_after _ tables name row = tables
 
 abbrev pub is_among : List ℕ → List (List ℕ) → Bool
 is_among name names = list_any (bytes_eq name) names

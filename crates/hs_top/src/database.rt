@@ -10,7 +10,7 @@ use crate::names::Names;
 use crate::refusal::Refusal;
 use crate::reply::Reply;
 use crate::statement::Statement;
-use crate::table::{MOST_TABLES, Table, Tables};
+use crate::table::{Adding, MOST_TABLES, Table, Tables};
 use hs_values::{Name, Row, RowList, sort_rows};
 use std::alloc::{AllocError, Global};
 
@@ -70,19 +70,17 @@ impl Database {
     }
 
     // Puts a row into a table.
+    #[tactic(auto, using(crate::proofs::Entries::is_inserted))]
     fn insert(&mut self, name: Name, row: Row) -> Result<Reply, AllocError>
         requires { self.old.commits < 2 ^ 63 }
         ensures counted { IfOk result (λ reply. self.new.commits ≡ commits_after self.old.commits reply) }
         ensures done { IfOk result (λ reply. executed self.old (Statement.Insert name row) ≡ record { rows = []; reply = reply; database = self.new }) }
     {
-        let Some(table) = self.tables.table(name.as_str()) else {
-            return Ok(Reply::Refused(Refusal::NoSuch(name)));
-        };
-        if row.len() != table.columns.len() {
-            return Ok(Reply::Refused(Refusal::NotBuilt));
+        match self.tables.add_row(name.as_str(), row)? {
+            Adding::Added => Ok(self.commit(Some(1))),
+            Adding::NoTable => Ok(Reply::Refused(Refusal::NoSuch(name))),
+            Adding::OtherLength => Ok(Reply::Refused(Refusal::NotBuilt)),
         }
-        self.tables.add_row(name.as_str(), row)?;
-        Ok(self.commit(Some(1)))
     }
 
     // Counts a commit.

@@ -1,7 +1,7 @@
 // Tables, kept by name in the order of creation.
-ghost use Rattle.std.specs.Prelude.{◌≡◌, ◌≢◌, ◌∷◌, ◌++◌, [], length, OnOk, OnErr, None};
+ghost use Rattle.std.specs.Prelude.{◌≡◌, ◌≢◌, ◌∷◌, ◌++◌, [], length, OnOk, OnErr, IfOk, None};
 ghost use Rattle.std.specs.Option.{option_copied};
-ghost use Rattle.hs_top.specs.Database.{table_of, with_row};
+ghost use Rattle.hs_top.specs.Database.{table_of, adding_of, tables_after};
 
 use crate::names::Names;
 use hs_values::{Name, Row, RowList};
@@ -17,6 +17,17 @@ pub const MOST_TABLES: usize = 1024;
 pub struct Table {
     pub columns: Names,
     pub rows: RowList,
+}
+
+/// How the adding of a row went.
+#[derive(Clone, Copy, Debug)]
+pub enum Adding {
+    /// It is the last row of its table.
+    Added,
+    /// There is no table of this name.
+    NoTable,
+    /// The table has another number of columns.
+    OtherLength,
 }
 
 /// All tables by their names, which contracts see as a list in the order of creation.
@@ -66,17 +77,22 @@ impl Tables {
         Ok(())
     }
 
-    /// Adds a row to the table of a name, where there is one. After an `Err`, which is want of memory, nothing is changed.
-    pub fn add_row(&mut self, name: &str, row: Row) -> Result<(), AllocError>
-        ensures ok { OnOk result (self.new ≡ with_row self.old name.now row) }
+    /// Adds a row to the table of a name, where there is one with as many columns. After an `Err`, which is want
+    /// of memory, nothing is changed.
+    pub fn add_row(&mut self, name: &str, row: Row) -> Result<Adding, AllocError>
+        ensures how { IfOk result (λ how. how ≡ adding_of (table_of self.old name.now) row) }
+        ensures tables { IfOk result (λ how. self.new ≡ tables_after how self.old name.now row) }
         ensures err { OnErr result (self.new ≡ self.old) }
     {
         let Some(table) = self.tables.get_mut(name) else {
-            return Ok(());
+            return Ok(Adding::NoTable);
         };
+        if row.len() != table.columns.len() {
+            return Ok(Adding::OtherLength);
+        }
         if let Err(refused) = table.rows.push(row) {
             return Err(refused);
         }
-        Ok(())
+        Ok(Adding::Added)
     }
 }

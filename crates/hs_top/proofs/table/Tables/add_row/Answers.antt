@@ -1,14 +1,14 @@
-use Rattle.std.proofs.Common.{List, String, Global, ap, ◌∙◌, sym, string_bytes}
+use Rattle.std.proofs.Common.{List, String, Global, None, Some, arith, sym, ap, ◌∙◌, string_bytes}
 use Rattle.std.specs.Map.{set_value}
 use Rattle.std.specs.Str.{bytes_eq}
 use Rattle.hs_values.specs.declared.value.Value.{Value}
-use Rattle.hs_top.specs.Database.{with_row}
+use Rattle.hs_top.specs.Database.{with_row, adding_of}
 use Rattle.hs_top.specs.Entries.{entries_of, Entries}
-use Rattle.hs_top.proofs.Entries.{written, not_written, not_changed}
+use Rattle.hs_top.proofs.Entries.{found, written, not_changed}
 use Rattle.hs_top.proofs.table.Tables.add_row.Goals as goal
 
-pub returns-clause-ok : goal.returns-clause-ok
-returns-clause-ok c =
+pub returns-clause-tables : goal.returns-clause-tables
+returns-clause-tables c =
     let t = c.in-Some.table.now in
     ap entries_of (c.get_mut.follows.holds (record { columns = t.columns; rows = c.push.new.self })).0
     ∙ written c.self.inside.tables.entries c.args.name.now t _ c.args.row c.in-Some.ensures.value (ap (λ (rows : List (List Value)). record { columns = t.columns; rows = rows }) c.in_default-push.ensures.ok)
@@ -21,7 +21,26 @@ returns-in-Err-clause-err c =
     ∙ ap (λ (rows : List (List Value)). entries_of (set_value (λ (k : String Global). bytes_eq c.args.name.now (string_bytes k)) c.self.inside.tables.entries (record { columns = t.columns; rows = rows }))) c.in-Err.ensures.err
     ∙ not_changed c.self.inside.tables.entries c.args.name.now t c.in-Some.ensures.value ∙ c.self.view_is
 
-pub returns-in_default-clause-ok : goal.returns-in_default-clause-ok
-returns-in_default-clause-ok c =
-    let es = c.self.inside.tables.entries in
-    ap (λ m. entries_of m.entries) c.get_mut.follows.holds-at-none ∙ sym (not_written es c.args.name.now c.args.row c.in_default.ensures.value) ∙ ap (λ (z : Entries). with_row z c.args.name.now c.args.row) c.self.view_is
+pub returns-in_default-clause-tables : goal.returns-in_default-clause-tables
+returns-in_default-clause-tables c =
+    ap (λ m. entries_of m.entries) c.get_mut.follows.holds-at-none ∙ c.self.view_is
+
+pub returns-in_default-clause-how : goal.returns-in_default-clause-how
+returns-in_default-clause-how c =
+    sym (ap (λ t. adding_of t c.args.row) (found c.self.inside.tables.entries c.args.name.now None _ c.in_default.ensures.value c.self.view_is))
+
+pub returns-then-len-clause-how : goal.returns-then-len-clause-how
+returns-then-len-clause-how c =
+    rw (found c.self.inside.tables.entries c.args.name.now (Some c.in-Some.table.now) _ c.in-Some.ensures.value c.self.view_is)
+    (grind (arith, c.if-len.true, c.len.ensures, c.len-2.ensures))
+
+pub returns-then-len-clause-tables : goal.returns-then-len-clause-tables
+returns-then-len-clause-tables c =
+    let t = c.in-Some.table.now in
+    ap entries_of ((c.get_mut.follows.holds (record { columns = t.columns; rows = t.rows })).0)
+    ∙ not_changed c.self.inside.tables.entries c.args.name.now t c.in-Some.ensures.value ∙ c.self.view_is
+
+pub returns-clause-how : goal.returns-clause-how
+returns-clause-how c =
+    rw (found c.self.inside.tables.entries c.args.name.now (Some c.in-Some.table.now) _ c.in-Some.ensures.value c.self.view_is)
+    (grind (arith, c.if-len.false, c.len.ensures, c.len-2.ensures))
