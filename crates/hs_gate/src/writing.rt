@@ -70,16 +70,19 @@ pub fn replace_from<H: Host>(
     Ok(())
 }
 
-/// A payload behind its length and in front of a closed gate, where these are at most 256 bytes.
+/// Puts a payload behind its length and in front of a closed gate, where these are at most 256 bytes.
 #[inline]
-fn small_group(payload: &[u8]) -> Result<ArrayVec<u8, SMALL_BYTES>, CapacityError>
-    ensures { IfOk result (λ bytes. bytes.items ≡ eight_bytes (length payload.now) ++ payload.now ++ 0 ∷ []) }
+fn put_group(
+    bytes: &mut ArrayVec<u8, SMALL_BYTES>,
+    payload: &[u8],
+) -> Result<(), CapacityError>
+    requires { bytes.old.items ≡ [] }
+    ensures { OnOk result (bytes.new.items ≡ eight_bytes (length payload.now) ++ payload.now ++ 0 ∷ []) }
 {
-    let mut bytes = ArrayVec::new();
     bytes.try_extend_from_slice(&(payload.len() as u64).to_be_bytes())?;
     bytes.try_extend_from_slice(payload)?;
     bytes.try_extend_from_slice(&[0])?;
-    Ok(bytes)
+    Ok(())
 }
 
 /// Writes the length of a payload, the payload and a closed gate, at once where they are few bytes, and syncs them.
@@ -104,7 +107,8 @@ pub fn write_payload<H: Host>(
     ensures output { H.written host.new ≡ H.written host.old }
     ensures output_faults { H.output_faults host.new ≡ H.output_faults host.old }
 {
-    if let Ok(bytes) = small_group(payload) {
+    let mut bytes = ArrayVec::new();
+    if put_group(&mut bytes, payload).is_ok() {
         return write_synced(host, file, at, bytes.as_slice());
     }
     let size = payload.len() as u64;

@@ -28,8 +28,8 @@ returns-clause-ok g c = λ told honest.
     (omega (arith, length-append size payload, length-eight (length payload))) second third)
     (c.write_synced-2.ensures.ok told honest_2)
 
-pub returns-in-Ok-clause-moments : goal.returns-in-Ok-clause-moments
-returns-in-Ok-clause-moments g c = λ told honest keeps.
+pub returns-then-is_ok-clause-moments : goal.returns-then-is_ok-clause-moments
+returns-then-is_ok-clause-moments g c = λ told honest keeps.
     begins_writing _ _ c.args.file c.args.at c.args.at _ _ _ keeps (omega arith) (c.requires.within told honest) refl (c.write_synced.ensures.moments told honest)
 
 pub returns-in_err-write-clause-moments : goal.returns-in_err-write-clause-moments
