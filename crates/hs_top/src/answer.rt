@@ -14,7 +14,7 @@ ghost use Rattle.hs_top.specs.Lines.{rows_lines, reply_line, answer_lines, outco
 ghost use Rattle.hs_top.specs.Machine.{WritesFront, step_of, entered, logged, last_after, if_commit, commits_after};
 ghost use Rattle.hs_top.specs.Running.{state_of, texts_in, OnlyLog, HasRoom, IsLog, IsSound, IsWhole, is_damaged};
 
-use crate::commit_text::commit_text;
+use crate::commit_text::write_commit;
 use crate::database::{Database, sorted};
 use crate::hand_over::hand_over_much;
 use crate::output::Output;
@@ -163,6 +163,7 @@ fn enter<H: Host>(
         statement,
         &mut work.database,
         &mut work.log,
+        &mut work.text,
         output,
         host,
     )
@@ -178,6 +179,7 @@ fn execute<H: Host>(
     statement: Option<Statement>,
     database: &mut Database,
     log: &mut StatementLog,
+    text: &mut Bytes,
     output: &mut Output,
     host: &mut H,
 ) -> Result<(), Status>
@@ -214,13 +216,13 @@ fn execute<H: Host>(
         Some(Statement::Create { table, columns }) => {
             let statement = Statement::Create { table, columns };
             change(
-                alloc, number, name, session, statement, database, log, output, host,
+                alloc, number, name, session, statement, database, log, text, output, host,
             )
         }
         Some(Statement::Insert { table, row }) => {
             let statement = Statement::Insert { table, row };
             change(
-                alloc, number, name, session, statement, database, log, output, host,
+                alloc, number, name, session, statement, database, log, text, output, host,
             )
         }
         None => {
@@ -240,6 +242,7 @@ fn change<H: Host>(
     statement: Statement,
     database: &mut Database,
     log: &mut StatementLog,
+    text: &mut Bytes,
     output: &mut Output,
     host: &mut H,
 ) -> Result<(), Status>
@@ -269,11 +272,11 @@ fn change<H: Host>(
     ensures input_faults { H.input_faults host.new ≡ H.input_faults host.old }
     ensures standing { H.standing host.new ≡ H.standing host.old }
 {
-    let text = commit_text(alloc, log.last, session, &statement)?;
+    write_commit(alloc, text, log.last, session, &statement)?;
     let end = log.end();
     prove!(database.commits < end);
     let reply = database.change(alloc, statement)?;
-    log_commit(&reply, session, &text, log, host)?;
+    log_commit(&reply, session, text, log, host)?;
     output.push_reply(number, name, &reply)?;
     Ok(())
 }

@@ -11,6 +11,7 @@ use crate::statement::{Statement, after, digits_len, read_create, read_insert};
 use crate::values::push_values;
 use hs_values::{Bytes, Name, Value};
 use std::alloc::{AllocError, Global};
+use std::mem::replace;
 
 /// One commit: the number of its session and the statement that it made.
 #[derive(Debug, Drop)]
@@ -19,25 +20,26 @@ pub struct Commit {
     pub statement: Statement,
 }
 
-// As many bytes as the text of a commit is given at first.
-const SHORT_BYTES: usize = 128;
-
-/// The text of a commit, where `before` is the session of the group before it, and none stands before the
-/// first group: a mark of the session, unless it stays the same, the line of the change, and `COMMIT`, each
-/// with a line feed at its end. A query has no line of a change. An `Err` is want of memory.
-pub fn commit_text(
+/// Writes the text of a commit in place of the bytes that stand there, and keeps their memory. `before` is the
+/// session of the group before it, and none stands before the first group. The text is a mark of the session,
+/// unless it stays the same, the line of the change, and `COMMIT`, each with a line feed at its end. A query has
+/// no line of a change. An `Err` is want of memory, and then nothing is to be said of the bytes.
+pub fn write_commit(
     alloc: Global,
+    bytes: &mut Bytes,
     before: Option<u32>,
     session: u32,
     statement: &Statement,
-) -> Result<Bytes, AllocError>
-    ensures { IfOk result (λ text. text ≡ commit_text before session statement.now) }
+) -> Result<(), AllocError>
+    ensures { OnOk result (bytes.new ≡ commit_text before session statement.now) }
 {
-    let mut text = Vec::with_capacity(alloc, SHORT_BYTES)?;
+    let mut text = replace(bytes, Bytes::new(alloc)).into_vec();
+    text.clear();
     push_mark(&mut text, before, session)?;
     push_change(&mut text, statement)?;
     text.extend_from_slice(b"COMMIT\n")?;
-    Ok(Bytes::from_vec(text))
+    *bytes = Bytes::from_vec(text);
+    Ok(())
 }
 
 fn push_mark(text: &mut Vec<u8>, before: Option<u32>, session: u32) -> Result<(), AllocError>

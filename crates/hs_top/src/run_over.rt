@@ -24,7 +24,7 @@ use crate::status::Status;
 use crate::work::Work;
 use hs_entries::EntryReader;
 use hs_host::{FileKind, Host, MountFault};
-use hs_values::Words;
+use hs_values::{Bytes, Words};
 use std::alloc::Global;
 
 /// How many bytes of the input are used at most.
@@ -192,6 +192,7 @@ fn answer_all<H: Host>(alloc: Global, opening: Opening, host: &mut H) -> Result<
             sessions: Sessions::new(alloc),
             database: opening.database,
             log: opening.log,
+            text: Bytes::new(alloc),
         },
     };
     while running.turn(host)? {}

@@ -1,6 +1,6 @@
 // What no clause says: that the definitions of a commit's text are those of the log's readers.
-use crate::commit_text::{commit_text, read_commit};
-use crate::statement::read_statement;
+use crate::commit_text::{read_commit, write_commit};
+use crate::statement::{Statement, read_statement};
 use hs_values::Bytes;
 use std::alloc::{AllocError, Global};
 use std::test::Fail;
@@ -90,10 +90,23 @@ fn bytes(alloc: Global, text: &str) -> Result<Vec<u8>, AllocError> {
     Ok(bytes)
 }
 
+// The text of a commit, written over other bytes.
+fn spelled(
+    alloc: Global,
+    before: Option<u32>,
+    session: u32,
+    statement: &Statement,
+) -> Result<Bytes, AllocError> {
+    let mut text = Bytes::new(alloc);
+    text.extend(b"other bytes")?;
+    write_commit(alloc, &mut text, before, session, statement)?;
+    Ok(text)
+}
+
 // The text of the commit that is read from a text, or none.
 fn again(alloc: Global, before: Option<u32>, text: &[u8]) -> Result<Option<Bytes>, AllocError> {
     match read_commit(alloc, before, text)? {
-        Some(commit) => Ok(Some(commit_text(alloc, before, commit.session, &commit.statement)?)),
+        Some(commit) => Ok(Some(spelled(alloc, before, commit.session, &commit.statement)?)),
         None => Ok(None),
     }
 }
@@ -110,11 +123,11 @@ fn spelled_commits(rt: HostRuntime) -> Result<(), Fail> {
         let session: u32 = session.parse().ok().ok_or("no number")?;
         let statement = read_statement(alloc, statement.as_bytes())?.ok_or("not read")?;
         let wanted = bytes(alloc, text)?;
-        let written = commit_text(alloc, before, session, &statement)?;
+        let written = spelled(alloc, before, session, &statement)?;
         assert_eq!(rt; written.as_slice(), wanted.as_slice(), "at {case}");
         let commit = read_commit(alloc, before, &wanted)?.ok_or("no commit")?;
         assert_eq!(rt; commit.session, session, "at {case}");
-        let written = commit_text(alloc, before, session, &commit.statement)?;
+        let written = spelled(alloc, before, session, &commit.statement)?;
         assert_eq!(rt; written.as_slice(), wanted.as_slice(), "at {case}");
         lengths.push(written.len())?;
     }

@@ -2,11 +2,13 @@
 use crate::database::Database;
 use crate::sessions::Sessions;
 use crate::statement_log::StatementLog;
+use hs_values::Bytes;
 
-/// What entries work on: the sessions, the database, and the log of its commits.
+/// What entries work on: the sessions, the database, the log of its commits, and memory for a commit's text.
 #[derive(Drop)]
 pub struct Work {
     pub sessions: Sessions,
     pub database: Database,
     pub log: StatementLog,
+    pub text: Bytes,
 }

@@ -27,7 +27,7 @@ returns-in_err-push_opened-clause-front g c = λ told. nothing_yet _ _
 first_line : (g : _) (c : After-new-2 g) → c.push_opened.new.self ≡ opened_line c.args.opening.database.commits
 first_line g c = c.in_ok-push_opened.ensures ∙ ap (λ (l : List ℕ). l ++ opened_line c.args.opening.database.commits) c.new-output.ensures
 
-first_state : (g : _) (c : After-new-2 g) → state_of (record { sessions = c.new-2.result; database = c.args.opening.database; log = c.args.opening.log }) ≡ begun_with (opened_by c.args.opening)
+first_state : (g : _) (c : After-new-2 g) → state_of (record { sessions = c.new-2.result; database = c.args.opening.database; log = c.args.opening.log; text = [] }) ≡ begun_with (opened_by c.args.opening)
 first_state g c = ap (λ (names : List (List ℕ)). record { sessions = names; last = c.args.opening.log.last; database = c.args.opening.database }) c.new-2.ensures
 
 first_items : (g : _) (c : After-new-2 g) → left_items c.new.result (g.H.Source.unread c.args.host.now) ≡ items 1 (g.H.Source.unread c.args.host.now)
@@ -41,7 +41,7 @@ loop-running-init g c =
     let at = (goal.at.loop-running-init g c).After-new-2 in
     let written = g.H.Host.written c.args.host.now in
     let unread = g.H.Source.unread c.args.host.now in
-    let work = state_of (record { sessions = c.new-2.result; database = c.args.opening.database; log = c.args.opening.log }) in
+    let work = state_of (record { sessions = c.new-2.result; database = c.args.opening.database; log = c.args.opening.log; text = [] }) in
     let texts = texts_in (g.H.Host.files c.args.host.now) in
     record {
       sane = record { reader = c.new.ensures.kept; work = record { sound = c.requires.sound; room = c.requires.room } };
