@@ -6,6 +6,7 @@ ghost use Rattle.hs_top.specs.Database.{new_database, table_of, is_among, first_
 ghost use Rattle.hs_top.specs.CommitText.{IsChange};
 ghost use Rattle.hs_top.specs.Machine.{commits_after};
 
+use crate::keyed::{sort_keyed, with_keys, without_keys};
 use crate::names::Names;
 use crate::refusal::Refusal;
 use crate::reply::Reply;
@@ -119,8 +120,21 @@ fn is_among(name: &Name, names: &[Name]) -> bool
 pub fn sorted(alloc: Global, table: &Table) -> Result<Vec<&Row>, AllocError>
     ensures { IfOk result (λ rows. map (λ r. r.now) rows.items ≡ sorted_rows table.now.rows) }
 {
-    let mut rows = Vec::with_capacity(alloc, table.rows.len())?;
-    for row in table.rows.as_slice() {
+    match with_keys(alloc, table.rows.as_slice())? {
+        Some(mut keyed) => {
+            sort_keyed(&mut keyed)?;
+            without_keys(alloc, &keyed)
+        }
+        None => sorted_alone(alloc, table.rows.as_slice()),
+    }
+}
+
+// The same, without numbers beside the rows.
+fn sorted_alone(alloc: Global, unsorted: &[Row]) -> Result<Vec<&Row>, AllocError>
+    ensures { IfOk result (λ rows. map (λ r. r.now) rows.items ≡ sorted_rows unsorted.now) }
+{
+    let mut rows = Vec::with_capacity(alloc, unsorted.len())?;
+    for row in unsorted {
         rows.push(row)?;
     }
     sort_rows(&mut rows)?;

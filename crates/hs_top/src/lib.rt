@@ -8,6 +8,7 @@ mod damage;
 mod database;
 mod hand_over;
 mod integer;
+mod keyed;
 mod laws;
 mod names;
 mod opening;
