@@ -1,3 +1,4 @@
+pub mod Begun
 pub mod Committed
 pub mod Digits
 pub mod Endings

@@ -32,11 +32,11 @@ pub enum Statement {
 pub fn read_statement(alloc: Global, text: &[u8]) -> Result<Option<Statement>, AllocError>
     ensures { IfOk result (λ s. s ≡ statement_of text.now) }
 {
-    if let Some(rest) = after(text, b" CREATE TABLE ") {
-        return read_create(alloc, rest, b" (", b", ", b");");
-    }
     if let Some(rest) = after(text, b" INSERT INTO ") {
         return read_insert(alloc, rest, b" VALUES (", b");");
+    }
+    if let Some(rest) = after(text, b" CREATE TABLE ") {
+        return read_create(alloc, rest, b" (", b", ", b");");
     }
     match after(text, b" SELECT * FROM ") {
         Some(rest) => read_select(alloc, rest),
@@ -45,6 +45,7 @@ pub fn read_statement(alloc: Global, text: &[u8]) -> Result<Option<Statement>, A
 }
 
 /// What stands behind a prefix.
+#[inline]
 pub fn after<'a>(text: &'a [u8], prefix: &[u8]) -> Option<&'a [u8]>
     ensures { option_map (λ s. s.now) result ≡ after prefix.now text.now }
 {
