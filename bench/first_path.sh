@@ -71,12 +71,14 @@ median_run "$work/twice_asked" $((2 * rows + 1))
 echo "$((2 * rows)) INSERTs and one SELECT: $seconds s, $(reckon "(2 * $rows + 2) / $seconds") entries a second, peak $(reckon "$peak / 1024") MiB"
 echo "twice as many entries take $(reckon "$seconds / $once" 2) times as long"
 
+twice_peak=$peak
+
 run "$work/once" $((rows + 1))
 kept=$peak
 run "$work/twice" $((2 * rows + 1))
 if [ "$peak" -gt 0 ]; then
-    echo "without the SELECT, each further row takes $(reckon "($peak - $kept) * 1024 / $rows") bytes of memory at the peak"
-    echo "with the SELECT, $(reckon "$once_peak * 1024 / $rows") bytes a row at the peak, all counted"
+    echo "each further row takes $(reckon "($peak - $kept) * 1024 / $rows" 1) bytes of memory at the peak, and $(reckon "($twice_peak - $once_peak) * 1024 / $rows" 1) with the SELECT"
+    echo "with the SELECT, $(reckon "$once_peak * 1024 / $rows" 1) bytes a row at the peak, the program and all else counted"
 fi
 
 # An entry's cost beside 1,000 tables of one row, and beside one table of 1,000 rows.

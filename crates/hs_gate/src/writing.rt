@@ -72,10 +72,7 @@ pub fn replace_from<H: Host>(
 
 /// Puts a payload behind its length and in front of a closed gate, where these are at most 256 bytes.
 #[inline]
-fn put_group(
-    bytes: &mut ArrayVec<u8, SMALL_BYTES>,
-    payload: &[u8],
-) -> Result<(), CapacityError>
+fn put_group(bytes: &mut ArrayVec<u8, SMALL_BYTES>, payload: &[u8]) -> Result<(), CapacityError>
     requires { bytes.old.items ≡ [] }
     ensures { OnOk result (bytes.new.items ≡ eight_bytes (length payload.now) ++ payload.now ++ 0 ∷ []) }
 {
