@@ -250,9 +250,13 @@ impl Source for Noting {
 }
 
 impl Host for Noting {
+    ghost use Rattle.std.specs.Prelude.{refl};
     ghost use Rattle.std.proofs.Common.{ap};
+    ghost use Rattle.hs_memhost.specs.Replay.{still_since};
 
     ghost written = { λ h. ⟦<MemHost as Host>⟧.written h.inner };
+
+    ghost history = { λ h. ⟦<MemHost as Host>⟧.history h.inner };
 
     ghost output_faults = { λ h. ⟦<MemHost as Host>⟧.output_faults h.inner };
 
@@ -262,7 +266,11 @@ impl Host for Noting {
 
     ghost disk_faults = { λ h. ⟦<MemHost as Host>⟧.disk_faults h.inner };
 
-    ghost reading_keeps_output = { λ a b read. (ap (λ k. k.output) read, ap (λ k. k.output_faults) read) };
+    ghost output_now = { λ h told. refl };
+
+    ghost reading_passes = { λ a b read told. still_since (ap (λ k. k.history) read) };
+
+    ghost reading_keeps_output = { λ a b read. (ap (λ k. k.history.now.out) read, ap (λ k. k.output_faults) read) };
 
     ghost reading_keeps_files = { λ a b read. (ap (λ k. k.files) read, ap (λ k. k.standing) read, ap (λ k. k.disk_faults) read) };
 
