@@ -77,8 +77,8 @@ run "$work/once" $((rows + 1))
 kept=$peak
 run "$work/twice" $((2 * rows + 1))
 if [ "$peak" -gt 0 ]; then
-    echo "each further row takes $(reckon "($peak - $kept) * 1024 / $rows" 1) bytes of memory at the peak, and $(reckon "($twice_peak - $once_peak) * 1024 / $rows" 1) with the SELECT"
-    echo "with the SELECT, $(reckon "$once_peak * 1024 / $rows" 1) bytes a row at the peak, the program and all else counted"
+    echo "each further row takes $(reckon "($peak - $kept) * 1024 / $rows") bytes of memory at the peak, and $(reckon "($twice_peak - $once_peak) * 1024 / $rows") with the SELECT"
+    echo "with the SELECT, $(reckon "$once_peak * 1024 / $rows") bytes a row at the peak, the program and all else counted"
 fi
 
 # An entry's cost beside 1,000 tables of one row, and beside one table of 1,000 rows.
