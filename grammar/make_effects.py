@@ -1,10 +1,10 @@
 #!/usr/bin/env python3
 """Makes what each rule of `sql.g` takes from the stacks of a tree's building and leaves on them.
 
-    python3 make_effects.py          writes proofs/RuleEffects.antt below crates/hs_parser
+    python3 make_effects.py          writes crates/hs_parser/proofs/RuleEffects.antt
     python3 make_effects.py --check  says whether it is what it would write, and ends with 1 if not
 
-What each mark takes and puts stands in proofs/Effects.antt there, and is written by hand. A rule takes the least with
+What each mark takes and puts stands in crates/hs_steps/proofs/Effects.antt, and is written by hand. A rule takes the least with
 which none of its productions finds a part missing, and leaves the same parts whichever of them is taken, unless it leaves
 different states. Rules for which that can't be are named, and then nothing is written.
 """
@@ -13,7 +13,7 @@ import re
 import sys
 from collections import Counter
 
-from make_table import Grammar, HERE, PARSER
+from make_table import CRATES, Grammar, HERE
 
 
 def effects_of_marks(text):
@@ -123,7 +123,7 @@ def effects_file(g, typing, kinds):
         results.append(f'    ({" ∷ ".join(outcomes + ["[]"])}) ∷ -- {name}')
     head = f'''-- By rule of the grammar, what it takes from the stacks and leaves on them, made by grammar/make_effects.py.
 use Rattle.std.specs.Prelude.{{ℕ, List, [], ◌∷◌, Some, None}}
-use Rattle.hs_parser.proofs.Effects.{{{", ".join(kind for kind in kinds if kind in used)}}}
+use Rattle.hs_steps.proofs.Effects.{{{", ".join(kind for kind in kinds if kind in used)}}}
 use Rattle.hs_parser.proofs.Typing.{{Outcome}}
 
 abbrev in_any : List ℕ → Outcome
@@ -142,13 +142,13 @@ needs =
 def main():
     g = Grammar(open(os.path.join(HERE, 'sql.g')).read())
     g.work_out()
-    text = open(os.path.join(PARSER, 'proofs', 'Effects.antt')).read()
+    text = open(os.path.join(CRATES, 'hs_steps', 'proofs', 'Effects.antt')).read()
     kinds = re.findall(r'^abbrev pub (\w+) : ℕ$', text, re.M)
     made = effects_file(g, Typing(g, effects_of_marks(text)), kinds)
-    path = os.path.join(PARSER, 'proofs', 'RuleEffects.antt')
+    path = os.path.join(CRATES, 'hs_parser', 'proofs', 'RuleEffects.antt')
     if '--check' in sys.argv:
         if not os.path.exists(path) or re.sub(r'\s', '', open(path).read()) != re.sub(r'\s', '', made):
-            print('proofs/RuleEffects.antt is not what the grammar makes')
+            print('hs_parser/proofs/RuleEffects.antt is not what the grammar makes')
             return 1
     else:
         open(path, 'w').write(made)

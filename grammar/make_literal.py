@@ -1,19 +1,19 @@
 #!/usr/bin/env python3
 """Makes the literal grammar of `literal.g` and the proof that the table's grammar says the same.
 
-    python3 make_literal.py          writes the files below crates/hs_parser
+    python3 make_literal.py          writes the files below crates/hs_syntax and crates/hs_parser
     python3 make_literal.py --check  says whether they are what it would write, and ends with 1 if not
 """
 import os
 import re
 import sys
 
-from make_table import Grammar, HERE, MARK_KINDS, PARSER, SYMBOL_NAMES
+from make_table import CRATES, Grammar, HERE, MARK_KINDS, SYMBOL_NAMES
 
 RESERVED = {'where', 'as', 'in', 'data', 'use', 'open', 'do', 'let', 'mod'}
 MARK_ALIASES = {'LeafMark': 'leaf', 'ExpressionMark': 'e', 'FunctionMark': 'f', 'QueryMark': 'q', 'ChangeMark': 'c',
                 'DefinitionMark': 'd', 'SessionMark': 's'}
-AST = os.path.join(PARSER, '..', 'hs_ast', 'src')
+AST = os.path.join(HERE, '..', 'crates', 'hs_ast', 'src')
 
 
 class Literal:
@@ -128,7 +128,7 @@ def words_file(g):
     names = [quoted(name_of(c)) for c in words + signs]
     out = ['-- The words and the symbols as they are spelled, words in capitals, with their classes, made by grammar/make_literal.py.',
            'use Rattle.std.specs.Prelude.{ℕ, List, [], ◌∷◌, codes}',
-           'use Rattle.hs_parser.specs.Names.{' + ', '.join(names) + '}']
+           'use Rattle.hs_syntax.specs.Names.{' + ', '.join(names) + '}']
     for name, spelled in (('words', words), ('signs', signs)):
         out += ['', f'abbrev pub {name} : List (List ℕ × ℕ)', f'{name} =']
         out += [f'    (codes "{c}", {quoted(name_of(c))}) ∷' for c in spelled] + ['    []']
@@ -153,14 +153,19 @@ def step_of(text):
     return ' '.join([head] + [f'({x})' if ' ' in x else x for x in inside])
 
 
+def mark_names_file(g):
+    out = ['-- The names of the steps that build trees, as their numbers, made by grammar/make_literal.py.', 'use Rattle.std.specs.Prelude.{ℕ}', '']
+    out += [f'abbrev pub {mark_name(word)} : ℕ\n{mark_name(word)} = {k}' for k, word in enumerate(g.marks)]
+    return '\n'.join(out) + '\n'
+
+
 def marks_file(g):
     types = sorted(set(re.findall(r'\b([A-Z][A-Za-z]*)::', ' '.join(g.named[word] for word in g.marks))) - MARK_KINDS)
-    out = ['-- The steps that build trees, made by grammar/make_literal.py: their names, and by their numbers what they are.',
-           'use Rattle.std.specs.Prelude.{ℕ, true, false, List, [], ◌∷◌}']
+    out = ['-- The steps that build trees, by their numbers, made by grammar/make_literal.py.',
+           'use Rattle.std.specs.Prelude.{true, false, List, [], ◌∷◌}']
     out += [f'use Rattle.hs_ast.specs.declared.{ast_module(name)}.{name}.TheVariants as {name}' for name in types]
-    out += ['use Rattle.hs_parser.specs.declared.mark.Mark.{Mark}', 'use Rattle.hs_parser.specs.declared.mark.Mark.TheVariants as mark']
-    out += [f'use Rattle.hs_parser.specs.declared.mark.{kind}.TheVariants as {alias}' for kind, alias in MARK_ALIASES.items()] + ['']
-    out += [f'abbrev pub {mark_name(word)} : ℕ\n{mark_name(word)} = {k}' for k, word in enumerate(g.marks)]
+    out += ['use Rattle.hs_steps.specs.declared.mark.Mark.{Mark}', 'use Rattle.hs_steps.specs.declared.mark.Mark.TheVariants as mark']
+    out += [f'use Rattle.hs_steps.specs.declared.mark.{kind}.TheVariants as {alias}' for kind, alias in MARK_ALIASES.items()] + ['']
     out += ['abbrev pub steps : List Mark', 'steps =']
     out += [f'    {step_of(g.named[word].strip())} ∷  -- {mark_name(word)}' for word in g.marks] + ['    []']
     return '\n'.join(out) + '\n'
@@ -196,8 +201,8 @@ def literal_file(g, literal):
            'use Rattle.hs_grammar.specs.declared.types.Item.{Item}',
            'use Rattle.hs_grammar.specs.declared.types.Item.TheVariants as item',
            'use Rattle.hs_grammar.specs.Grammar.{Extent, whole, refused, tokens_of}',
-           'use Rattle.hs_parser.specs.Marks as m',
-           'use Rattle.hs_parser.specs.Names.{' + ', '.join(used_names(g, literal)) + '}', '',
+           'use Rattle.hs_syntax.specs.Marks as m',
+           'use Rattle.hs_syntax.specs.Names.{' + ', '.join(used_names(g, literal)) + '}', '',
            'pub data Part : Type 0 where',
            '  word : ℕ → Part        -- a token of this class',
            '  span : ℕ → ℕ → Part    -- a token of a class from the first to the second',
@@ -456,10 +461,10 @@ def scripts_file(g, literal):
     by_hand = []
     out = ['-- How each production of the table is read by the literal grammar, made by grammar/make_literal.py.',
            'use Rattle.std.specs.Prelude.{ℕ, List, [], ◌∷◌}',
-           'use Rattle.hs_parser.specs.Literal.{Part, word, mark, rule}',
-           'use Rattle.hs_parser.proofs.Rewriting.{step}',
-           'use Rattle.hs_parser.proofs.Script.{Choice, any, in_state, Script, done, at, both, no}',
-           'use Rattle.hs_parser.proofs.ScriptTo.{Completion, completion_of}', '',
+           'use Rattle.hs_syntax.specs.Literal.{Part, word, mark, rule}',
+           'use Rattle.hs_syntax.proofs.Rewriting.{step}',
+           'use Rattle.hs_syntax.proofs.Script.{Choice, any, in_state, Script, done, at, both, no}',
+           'use Rattle.hs_syntax.proofs.ScriptTo.{Completion, completion_of}', '',
            '-- by rule, what stands in front of it', 'abbrev pub fronts : List (List Part)', 'fronts =']
     out += [f'    {plain_parts(search.front[name], literal)} ∷' for name in g.rules] + ['    []', '']
     out += ['-- by rule, how that and what it derives may be read', 'abbrev pub readings : List (List Choice)', 'readings =']
@@ -681,7 +686,7 @@ def runs_file(g, literal):
     out = ['-- How the table derives what each production of the literal grammar writes, made by grammar/make_literal.py.',
            'use Rattle.std.specs.Prelude.{List, [], ◌∷◌}',
            'use Rattle.hs_grammar.specs.declared.types.Symbol.TheVariants as S',
-           'use Rattle.hs_parser.proofs.Runs.{to_any, to_state, Claim, claim, Run, finish, by, take, claimed, both, no}', '',
+           'use Rattle.hs_syntax.proofs.Runs.{to_any, to_state, Claim, claim, Run, finish, by, take, claimed, both, no}', '',
            '-- by rule, from which symbols of the table it leads where', 'abbrev pub claims : List (List Claim)', 'claims =']
     numbers = {n: name for name, n in literal.number.items()}
     for n in range(len(numbers)):
@@ -718,10 +723,11 @@ def main():
     g.work_out()
     literal = Literal(g, open(os.path.join(HERE, 'literal.g')).read())
     scripts, by_hand = scripts_file(g, literal)
-    files = {'specs/Names.antt': names_file(g, literal), 'specs/Words.antt': words_file(g),
-             'specs/Marks.antt': marks_file(g), 'specs/Literal.antt': literal_file(g, literal), 'proofs/Scripts.antt': scripts}
+    files = {'hs_syntax/specs/Names.antt': names_file(g, literal), 'hs_syntax/specs/Words.antt': words_file(g),
+             'hs_syntax/specs/Marks.antt': mark_names_file(g), 'hs_syntax/specs/Literal.antt': literal_file(g, literal),
+             'hs_syntax/proofs/Scripts.antt': scripts, 'hs_parser/specs/Marks.antt': marks_file(g)}
     runs, left_out = runs_file(g, literal)
-    files['proofs/LiteralRuns.antt'] = runs
+    files['hs_syntax/proofs/LiteralRuns.antt'] = runs
     print(f'{len(literal.productions)} literal productions; without a script: {", ".join(name for _, name, _ in by_hand)}; '
           f'without a run: {", ".join(x[1] for x in left_out)}')
     def bare(text):
@@ -729,7 +735,7 @@ def main():
 
     stale = []
     for name, text in files.items():
-        path = os.path.join(PARSER, name)
+        path = os.path.join(CRATES, name)
         if '--check' in sys.argv:
             if not os.path.exists(path) or bare(open(path).read()) != bare(text):
                 stale.append(name)

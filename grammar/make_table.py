@@ -1,7 +1,7 @@
 #!/usr/bin/env python3
 """Makes the parser's table from `sql.g`.
 
-    python3 make_table.py            writes the files below crates/hs_parser
+    python3 make_table.py            writes the files below crates/hs_syntax and crates/hs_parser
     python3 make_table.py --check    says whether they are what it would write, and ends with 1 if not
 
 The form of the grammar is told at the top of `sql.g`. The table has for each rule and each column the production with
@@ -14,7 +14,7 @@ import re
 import sys
 
 HERE = os.path.dirname(os.path.abspath(__file__))
-PARSER = os.environ.get('OUT') or os.path.join(HERE, '..', 'crates', 'hs_parser')
+CRATES = os.environ.get('OUT') or os.path.join(HERE, '..', 'crates')
 COLUMNS = 256
 STATES = 3
 MARK_KINDS = {'ChangeMark', 'DefinitionMark', 'ExpressionMark', 'FunctionMark', 'LeafMark', 'QueryMark', 'SessionMark'}
@@ -313,9 +313,9 @@ def rows_file(g):
 
 def mark_file(g):
     out = ['// The steps that build a tree, by their numbers, made by grammar/make_table.py.']
-    out.append('use crate::mark::{ChangeMark, DefinitionMark, ExpressionMark, FunctionMark, LeafMark, Mark, QueryMark, SessionMark};')
     types = sorted(set(re.findall(r'\b([A-Z][A-Za-z]*)::', ' '.join(g.named[mark] for mark in g.marks))) - MARK_KINDS)
     out.append(f'use hs_ast::{{{", ".join(types)}}};')
+    out.append('use hs_steps::{ChangeMark, DefinitionMark, ExpressionMark, FunctionMark, LeafMark, Mark, QueryMark, SessionMark};')
     out.append('')
     out.append(f'pub const MARKS: [Mark; {len(g.marks)}] = [')
     out += [f'    Mark::{g.named[mark]},' for mark in g.marks]
@@ -372,13 +372,14 @@ def main():
           f'{g.column_count} columns, {len(g.marks)} marks, greatest height {max(g.height.values())}, greatest weight {max(g.weight)}')
     if g.conflicts:
         return 1
-    files = {'src/table.rt': table_file(g), 'src/marks.rt': mark_file(g), 'src/words.rt': words_file(g), 'specs/Rows.antt': rows_file(g)}
+    files = {'hs_syntax/src/table.rt': table_file(g), 'hs_syntax/src/words.rt': words_file(g), 'hs_syntax/specs/Rows.antt': rows_file(g),
+             'hs_parser/src/marks.rt': mark_file(g)}
     def bare(text):
         return re.sub(r'[\s,]', '', text)
 
     stale = []
     for name, text in files.items():
-        path = os.path.join(PARSER, name)
+        path = os.path.join(CRATES, name)
         if '--check' in sys.argv:
             if not os.path.exists(path) or bare(open(path).read()) != bare(text):
                 stale.append(name)

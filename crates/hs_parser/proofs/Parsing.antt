@@ -9,16 +9,16 @@ use Rattle.hs_grammar.specs.declared.types.Item.{Item}
 use Rattle.hs_lexer.specs.declared.token.Token.{Token}
 use Rattle.hs_parser.specs.declared.syntax_fault.SyntaxFault.{SyntaxFault}
 use Rattle.hs_parser.specs.declared.syntax_fault.SyntaxFault.TheVariants.{At, NotOffered, Depth, NoMemory}
-use Rattle.hs_parser.specs.Classes.{classes_of}
-use Rattle.hs_parser.specs.Literal.{IsBuiltBy}
+use Rattle.hs_syntax.specs.Classes.{classes_of}
+use Rattle.hs_syntax.specs.Literal.{IsBuiltBy}
 use Rattle.hs_parser.specs.Building.{tree_of}
 use Rattle.hs_parser.specs.Parsed.{opens_too_many, bounded_tree_of, Grown, fault_at, Parsed, Read}
-use Rattle.hs_parser.specs.Sql.{sql}
-use Rattle.hs_parser.specs.Statement.{IsFaultOf}
-use Rattle.hs_parser.specs.Steps.{Step, deep}
-use Rattle.hs_parser.proofs.Covering.{Then}
+use Rattle.hs_syntax.specs.Sql.{sql}
+use Rattle.hs_syntax.specs.Statement.{IsFaultOf}
+use Rattle.hs_steps.specs.Steps.{Step, deep}
+use Rattle.hs_steps.proofs.Covering.{Then}
 use Rattle.hs_parser.proofs.CoveringBuilding.{tree_fits}
-use Rattle.hs_parser.proofs.Covers.{StatementFits}
+use Rattle.hs_steps.proofs.Covers.{StatementFits}
 
 pub grown : (text : List ℕ) (tokens : List Token) (items : List Item) (result : Result Stmt SyntaxFault) → Only sql (classes_of text tokens) items → Grown (bounded_tree_of text tokens items) result → Parsed text tokens result
 grown text tokens items (Ok statement) only is = (items, only, is)

@@ -10,11 +10,11 @@ use Rattle.hs_lexer.specs.Content.{written}
 use Rattle.hs_parser.specs.declared.syntax_fault.SyntaxFault.{SyntaxFault}
 use Rattle.hs_parser.specs.declared.syntax_fault.SyntaxFault.TheVariants.{At, NotOffered, Depth, NoMemory}
 use Rattle.hs_parser.specs.Building.{tree_of}
-use Rattle.hs_parser.specs.Classes.{classes_of}
-use Rattle.hs_parser.specs.Literal.{IsBuiltBy}
-use Rattle.hs_parser.specs.Sql.{sql}
-use Rattle.hs_parser.specs.Statement.{IsFaultOf}
-use Rattle.hs_parser.specs.Steps.{Step, stands, deep}
+use Rattle.hs_syntax.specs.Classes.{classes_of}
+use Rattle.hs_syntax.specs.Literal.{IsBuiltBy}
+use Rattle.hs_syntax.specs.Sql.{sql}
+use Rattle.hs_syntax.specs.Statement.{IsFaultOf}
+use Rattle.hs_steps.specs.Steps.{Step, stands, deep}
 
 -- ---- places
 

@@ -1,114 +1,15 @@
 // The tree of a sentence: its items, one after another, on stacks of parts.
 ghost use Rattle.std.specs.Prelude.{◌≡◌, ◌+◌, ◌-◌, ◌<◌, ◌≤◌, MatchResult, MatchOption, length, slice_get, Some, None};
-ghost use Rattle.hs_parser.specs.Building.{leaf_step, expression_step, function_step, query_step, change_step, definition_step, session_step, step, token_at, marked, built, no_parts, tree_of, Acts};
-ghost use Rattle.hs_parser.specs.Steps.{Gives, Answers};
+ghost use Rattle.hs_steps.specs.MarkSteps.{step, no_parts};
+ghost use Rattle.hs_parser.specs.Building.{token_at, marked, built, tree_of, Acts};
+ghost use Rattle.hs_steps.specs.Steps.{Gives, Answers};
 
-use crate::build_fault::BuildFault;
-use crate::expression_steps::{apply_expression, apply_function, apply_leaf};
-use crate::mark::Mark;
 use crate::marks::MARKS;
-use crate::part::{Changes, Definitions, Expressions, Leaves, Parts, Queries};
-use crate::stack::Stack;
-use crate::statement_steps::{apply_change, apply_definition, apply_query, apply_session};
-use hs_ast::{DataType, Literal, Stmt};
+use hs_ast::Stmt;
 use hs_grammar::Item;
 use hs_lexer::{Token, TokenKind};
+use hs_steps::{BuildFault, Mark, Parts};
 use std::alloc::Global;
-
-/// No parts. Takes no memory.
-fn empty(alloc: Global) -> Parts
-    ensures { result ≡ no_parts }
-{
-    Parts {
-        leaves: Leaves {
-            places: Stack::new(alloc),
-            names: Stack::new(alloc),
-            name_lists: Stack::new(alloc),
-            aliases: Stack::new(alloc),
-            flags: Stack::new(alloc),
-            numbers: Stack::new(alloc),
-            texts: Stack::new(alloc),
-            literals: Stack::new(alloc),
-            types: Stack::new(alloc),
-        },
-        expressions: Expressions {
-            whole: Stack::new(alloc),
-            lists: Stack::new(alloc),
-            cases: Stack::new(alloc),
-            forms: Stack::new(alloc),
-            fields: Stack::new(alloc),
-            counts: Stack::new(alloc),
-        },
-        queries: Queries {
-            selects: Stack::new(alloc),
-            tables: Stack::new(alloc),
-            froms: Stack::new(alloc),
-            rows: Stack::new(alloc),
-            bodies: Stack::new(alloc),
-            whole: Stack::new(alloc),
-        },
-        changes: Changes {
-            targets: Stack::new(alloc),
-            tuples: Stack::new(alloc),
-            tuple_lists: Stack::new(alloc),
-            updates: Stack::new(alloc),
-            deletes: Stack::new(alloc),
-            locks: Stack::new(alloc),
-        },
-        definitions: Definitions {
-            tables: Stack::new(alloc),
-            columns: Stack::new(alloc),
-            headers: Stack::new(alloc),
-            keys: Stack::new(alloc),
-            actions: Stack::new(alloc),
-            constraints: Stack::new(alloc),
-        },
-        modes: Stack::new(alloc),
-        statements: Stack::new(alloc),
-    }
-}
-
-/// The step with a mark, behind this token and before another one.
-#[tactic(auto, using(crate::proofs::Lifting::lifted))]
-fn apply(
-    alloc: Global,
-    text: &str,
-    token: Token,
-    here: u32,
-    mark: Mark,
-    parts: &mut Parts,
-) -> Result<(), BuildFault>
-    ensures { Gives (step text.now token here mark parts.old) result parts.new }
-{
-    match mark {
-        Mark::Leaf(mark) => apply_leaf(alloc, text, token, here, mark, &mut parts.leaves),
-        Mark::Expression(mark) => apply_expression(
-            alloc,
-            mark,
-            &mut parts.leaves,
-            &mut parts.expressions,
-            &mut parts.queries,
-        ),
-        Mark::Function(mark) => apply_function(
-            alloc,
-            token,
-            mark,
-            &mut parts.leaves,
-            &mut parts.expressions,
-        ),
-        Mark::Query(mark) => apply_query(
-            alloc,
-            token,
-            mark,
-            &mut parts.leaves,
-            &mut parts.expressions,
-            &mut parts.queries,
-        ),
-        Mark::Change(mark) => apply_change(alloc, token, mark, parts),
-        Mark::Definition(mark) => apply_definition(alloc, mark, parts),
-        Mark::Session(mark) => apply_session(mark, parts),
-    }
-}
 
 /// The token at a place of the list; one that is nowhere, past its end.
 fn token_in(tokens: &[Token], at: usize) -> Token
@@ -157,7 +58,7 @@ fn apply_marked(
     };
     let last = token_in(tokens, taken.saturating_sub(1));
     let here = token_in(tokens, taken).start;
-    apply(alloc, text, last, here, mark, parts)
+    parts.apply(alloc, text, last, here, mark)
 }
 
 /// What an item does where as many tokens were taken, and how many are taken then.
@@ -192,7 +93,7 @@ pub fn build(
 ) -> Result<Stmt, BuildFault>
     ensures { Answers (tree_of text.now tokens.now items.now) result }
 {
-    let mut parts = empty(alloc);
+    let mut parts = Parts::new(alloc);
     let mut taken = 0;
     for item in items {
         taken = act(alloc, text, tokens, taken, *item, &mut parts)?;

@@ -1,11 +1,11 @@
 // The steps that build a tree, by their numbers, made by grammar/make_table.py.
-use crate::mark::{
-    ChangeMark, DefinitionMark, ExpressionMark, FunctionMark, LeafMark, Mark, QueryMark,
-    SessionMark,
-};
 use hs_ast::{
     Access, Aggregate, BinaryOperator, DataType, DateField, Function, IntervalUnit, Isolation,
     ReferentialAction, SetOperator, Sign, Storage, TransactionControl, TrimForm,
+};
+use hs_steps::{
+    ChangeMark, DefinitionMark, ExpressionMark, FunctionMark, LeafMark, Mark, QueryMark,
+    SessionMark,
 };
 
 pub const MARKS: [Mark; 203] = [

@@ -3,14 +3,13 @@ ghost use Rattle.std.specs.Prelude.{◌≡◌, ◌≤◌, IfOk, length};
 ghost use Rattle.hs_ast.specs.Depth.{statement_depth_of};
 ghost use Rattle.hs_parser.specs.Parsed as spec;
 
-use crate::build_fault::BuildFault;
 use crate::building::build;
-use crate::class::classes;
-use crate::syntax::recognised;
 use crate::syntax_fault::SyntaxFault;
 use hs_ast::Stmt;
 use hs_grammar::{Fault, Item};
 use hs_lexer::{Token, Tokens, written};
+use hs_steps::BuildFault;
+use hs_syntax::{classes, recognised};
 use std::alloc::Global;
 
 /// The greatest number of parentheses that may be open at one place.

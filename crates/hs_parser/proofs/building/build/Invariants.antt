@@ -1,5 +1,6 @@
 use Rattle.std.proofs.Common.{◌≡◌, ◌≤◌, drop}
-use Rattle.hs_parser.specs.Building.{built, no_parts}
+use Rattle.hs_steps.specs.MarkSteps.{no_parts}
+use Rattle.hs_parser.specs.Building.{built}
 use Rattle.hs_parser.proofs.building.build.Given as goal
 
 abbrev pub invariant-loop-item : goal.invariant-loop-item

@@ -1,6 +1,0 @@
-use Rattle.std.proofs.Common.{◌≡◌, ◌++◌, drop, map}
-use Rattle.hs_parser.specs.Classes.{class_of}
-use Rattle.hs_parser.proofs.class.classes.Given as goal
-
-abbrev pub invariant-loop-token : goal.invariant-loop-token
-invariant-loop-token l = l.classes.items ++ map (class_of l.source) (drop l.token-index l.tokens) ≡ map (class_of l.source) l.tokens

@@ -1,9 +1,0 @@
-use Rattle.std.proofs.Common.{refl}
-use Rattle.hs_parser.proofs.Answers.{answered}
-use Rattle.hs_parser.proofs.syntax.recognised.Goals as goal
-
-pub recognise-requires : goal.recognise-requires
-recognise-requires c = (refl, refl)
-
-pub returns-clause-statement : goal.returns-clause-statement
-returns-clause-statement c = answered (λ v. v.items) c.args.classes.now c.recognise.result c.recognise.ensures

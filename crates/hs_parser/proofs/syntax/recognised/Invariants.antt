@@ -1,5 +1,0 @@
-use Rattle.hs_parser.specs.Rows.{table_of}
-use Rattle.hs_parser.proofs.syntax.recognised.Given as goal
-
-abbrev pub ghost-recognise : goal.ghost-recognise
-ghost-recognise a = table_of a.tables.now.rows.now

@@ -1,6 +1,0 @@
--- The grammar of SQL as data: that of grammar/sql.g.
-use Rattle.hs_grammar.specs.Grammar.{Grammar}
-use Rattle.hs_parser.specs.declared.table.TheConstants.{PRODUCTIONS, SYMBOLS, VIEWS}
-
-unfoldable pub sql : Grammar
-sql = record { productions = PRODUCTIONS; symbols = SYMBOLS; views = VIEWS }

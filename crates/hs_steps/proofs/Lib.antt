@@ -1,0 +1,11 @@
+pub mod Covering
+pub mod CoveringExpressions
+pub mod CoveringMarks
+pub mod CoveringQueries
+pub mod CoveringStatements
+pub mod Covers
+pub mod Effects
+pub mod Heights
+pub mod Lifting
+pub mod Marked
+pub mod Trees

@@ -1,0 +1,9 @@
+pub mod Changes
+pub mod Definitions
+pub mod Expressions
+pub mod Functions
+pub mod Leaves
+pub mod MarkSteps
+pub mod Queries
+pub mod Sessions
+pub mod Steps

@@ -1,0 +1,15 @@
+pub mod Answers
+pub mod Derived
+pub mod DerivedTo
+pub mod Digits
+pub mod Letters
+pub mod LiteralRuns
+pub mod Rewriting
+pub mod Runs
+pub mod RunsTo
+pub mod Script
+pub mod ScriptTo
+pub mod Scripts
+pub mod SymbolsEqual
+pub mod Written
+pub mod WrittenTo

@@ -1,0 +1,9 @@
+pub mod Classes
+pub mod Letters
+pub mod Literal
+pub mod Marks
+pub mod Names
+pub mod Rows
+pub mod Sql
+pub mod Statement
+pub mod Words
