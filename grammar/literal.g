@@ -1,5 +1,5 @@
 # The grammar of the statements as one reads it, with the steps that build their trees. `make_literal.py` makes
-# crates/hs_parser/specs/Literal.antt of it. The line above each group says the same by tokens alone, with brackets: `[ ]` may be
+# crates/hs_syntax/specs/Literal.antt of it. The line above each group says the same by tokens alone, with brackets: `[ ]` may be
 # left out, `{ }` may be repeated or left out. What is in brackets has rules of its own here, each behind the rule that it stands
 # in. The other forms are as in `sql.g`, which lists the steps; <a..b> is a token of a class from a to b, <p,s> are three, a
 # precision, a comma and a scale that is not above it, the two read as numbers, and !a or !a..b is a token that stands there but
