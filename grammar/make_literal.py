@@ -164,8 +164,8 @@ def marks_file(g):
     out = ['-- The steps that build trees, by their numbers, made by grammar/make_literal.py.',
            'use Rattle.std.specs.Prelude.{true, false, List, [], ◌∷◌}']
     out += [f'use Rattle.hs_ast.specs.declared.{ast_module(name)}.{name}.TheVariants as {name}' for name in types]
-    out += ['use Rattle.hs_steps.specs.declared.mark.Mark.{Mark}', 'use Rattle.hs_steps.specs.declared.mark.Mark.TheVariants as mark']
-    out += [f'use Rattle.hs_steps.specs.declared.mark.{kind}.TheVariants as {alias}' for kind, alias in MARK_ALIASES.items()] + ['']
+    out += ['use Rattle.hs_builder.specs.declared.mark.Mark.{Mark}', 'use Rattle.hs_builder.specs.declared.mark.Mark.TheVariants as mark']
+    out += [f'use Rattle.hs_builder.specs.declared.mark.{kind}.TheVariants as {alias}' for kind, alias in MARK_ALIASES.items()] + ['']
     out += ['abbrev pub steps : List Mark', 'steps =']
     out += [f'    {step_of(g.named[word].strip())} ∷  -- {mark_name(word)}' for word in g.marks] + ['    []']
     return '\n'.join(out) + '\n'

@@ -315,7 +315,7 @@ def mark_file(g):
     out = ['// The steps that build a tree, by their numbers, made by grammar/make_table.py.']
     types = sorted(set(re.findall(r'\b([A-Z][A-Za-z]*)::', ' '.join(g.named[mark] for mark in g.marks))) - MARK_KINDS)
     out.append(f'use hs_ast::{{{", ".join(types)}}};')
-    out.append('use hs_steps::{ChangeMark, DefinitionMark, ExpressionMark, FunctionMark, LeafMark, Mark, QueryMark, SessionMark};')
+    out.append('use hs_builder::{ChangeMark, DefinitionMark, ExpressionMark, FunctionMark, LeafMark, Mark, QueryMark, SessionMark};')
     out.append('')
     out.append(f'pub const MARKS: [Mark; {len(g.marks)}] = [')
     out += [f'    Mark::{g.named[mark]},' for mark in g.marks]

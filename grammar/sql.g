@@ -17,7 +17,7 @@
 # ---------------------------------------------------------------------------------------------------------------------
 # The steps. Each takes parts from the tops of stacks and puts one on a stack; each kind of part has a stack of its own, and
 # of parts of one kind the last one written is the topmost. "The token" is the last one that was taken before the step.
-# What each does is defined in `crates/hs_steps/specs`, and its name there stands at `marks`.
+# What each does is defined in `crates/hs_builder/specs`, and its name there stands at `marks`.
 #
 # Words, names, numbers, texts, literals, types
 #   #at                 -> place               the place of the token

@@ -11,8 +11,6 @@ mod literal;
 mod query;
 mod session;
 mod statement;
-#[cfg(test)]
-mod tests;
 mod word;
 
 pub use change::{Assignment, Delete, Insert, InsertSource, LockedTable, NewValue, Update};

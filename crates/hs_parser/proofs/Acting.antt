@@ -2,13 +2,13 @@
 use Rattle.std.proofs.Common.{arith, ◌≡◌, ℕ, ◌+◌, ◌≤◌, List, Result, Ok, Err, slice_get, refl, ap, subst}
 use Rattle.hs_grammar.specs.declared.types.Item.TheVariants as item
 use Rattle.hs_lexer.specs.declared.token.Token.{Token}
-use Rattle.hs_steps.specs.declared.build_fault.BuildFault.{BuildFault}
-use Rattle.hs_steps.specs.declared.build_fault.BuildFault.TheVariants.{Depth, NoMemory}
+use Rattle.hs_builder.specs.declared.build_fault.BuildFault.{BuildFault}
+use Rattle.hs_builder.specs.declared.build_fault.BuildFault.TheVariants.{Depth, NoMemory}
 use Rattle.hs_parser.specs.declared.marks.TheConstants.{MARKS}
-use Rattle.hs_steps.specs.declared.part.Parts.{Parts}
+use Rattle.hs_builder.specs.declared.part.Parts.{Parts}
 use Rattle.hs_parser.specs.Building.{marked, built, Acts}
 use Rattle.hs_parser.specs.Marks.{steps}
-use Rattle.hs_steps.specs.Steps.{Gives, and_then}
+use Rattle.hs_builder.specs.Steps.{Gives, and_then}
 
 -- the code's marks are the steps that the literal grammar names
 marks_are_steps : MARKS ≡ steps

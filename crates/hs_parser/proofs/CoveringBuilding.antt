@@ -3,15 +3,15 @@ use Rattle.std.proofs.Common.{ℕ, ◌+◌, ◌-◌, List, [], ◌∷◌, Option
 use Rattle.hs_grammar.specs.declared.types.Item.TheVariants as item
 use Rattle.hs_grammar.specs.declared.types.Item.{Item}
 use Rattle.hs_lexer.specs.declared.token.Token.{Token}
-use Rattle.hs_steps.proofs.Covering.{Then}
-use Rattle.hs_steps.proofs.CoveringMarks.{step_kept, none_fit, topmost_fits}
-use Rattle.hs_steps.proofs.Covers.{PartsFit, StatementFits}
-use Rattle.hs_steps.specs.MarkSteps.{step, no_parts, topmost}
+use Rattle.hs_builder.proofs.Covering.{Then}
+use Rattle.hs_builder.proofs.CoveringMarks.{step_kept, none_fit, topmost_fits}
+use Rattle.hs_builder.proofs.Covers.{PartsFit, StatementFits}
+use Rattle.hs_builder.specs.MarkSteps.{step, no_parts, topmost}
 use Rattle.hs_parser.specs.Building.{token_at, marked, built, tree_of}
-use Rattle.hs_steps.specs.Steps.{Step, stands, deep, wrong, and_then}
-use Rattle.hs_steps.specs.declared.mark.Mark.{Mark}
+use Rattle.hs_builder.specs.Steps.{Step, stands, deep, wrong, and_then}
+use Rattle.hs_builder.specs.declared.mark.Mark.{Mark}
 use Rattle.hs_parser.specs.declared.marks.TheConstants.{MARKS}
-use Rattle.hs_steps.specs.declared.part.Parts.{Parts}
+use Rattle.hs_builder.specs.declared.part.Parts.{Parts}
 
 marked_kept : (text : List ℕ) (tokens : List Token) (taken : ℕ) (m : Option Mark) (p : Parts) → PartsFit p → Then (λ (z : Parts). PartsFit z) (marked text tokens taken m p)
 marked_kept text tokens taken (Some m) p h = step_kept text (token_at tokens (taken - 1)) (token_at tokens taken).start m p h

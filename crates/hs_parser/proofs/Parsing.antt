@@ -15,10 +15,10 @@ use Rattle.hs_parser.specs.Building.{tree_of}
 use Rattle.hs_parser.specs.Parsed.{opens_too_many, bounded_tree_of, Grown, fault_at, Parsed, Read}
 use Rattle.hs_syntax.specs.Sql.{sql}
 use Rattle.hs_syntax.specs.Statement.{IsFaultOf}
-use Rattle.hs_steps.specs.Steps.{Step, deep}
-use Rattle.hs_steps.proofs.Covering.{Then}
+use Rattle.hs_builder.specs.Steps.{Step, deep}
+use Rattle.hs_builder.proofs.Covering.{Then}
 use Rattle.hs_parser.proofs.CoveringBuilding.{tree_fits}
-use Rattle.hs_steps.proofs.Covers.{StatementFits}
+use Rattle.hs_builder.proofs.Covers.{StatementFits}
 
 pub grown : (text : List ℕ) (tokens : List Token) (items : List Item) (result : Result Stmt SyntaxFault) → Only sql (classes_of text tokens) items → Grown (bounded_tree_of text tokens items) result → Parsed text tokens result
 grown text tokens items (Ok statement) only is = (items, only, is)

@@ -8,19 +8,19 @@ use Rattle.hs_grammar.specs.declared.types.Symbol.TheVariants as S
 use Rattle.hs_grammar.specs.Check.{all_below, if_above}
 use Rattle.hs_grammar.specs.Grammar.{whole, Derives, ends, take, take_keep, take_up_to, mark, keep, turn, rule, Sentence}
 use Rattle.hs_lexer.specs.declared.token.Token.{Token}
-use Rattle.hs_steps.specs.declared.mark.Mark.{Mark}
+use Rattle.hs_builder.specs.declared.mark.Mark.{Mark}
 use Rattle.hs_parser.specs.declared.marks.TheConstants.{MARKS}
-use Rattle.hs_steps.specs.declared.part.Parts.{Parts}
+use Rattle.hs_builder.specs.declared.part.Parts.{Parts}
 use Rattle.hs_syntax.specs.declared.table.TheConstants.{PRODUCTIONS}
-use Rattle.hs_steps.specs.MarkSteps.{no_parts, topmost}
+use Rattle.hs_builder.specs.MarkSteps.{no_parts, topmost}
 use Rattle.hs_parser.specs.Building.{token_at, marked, built, tree_of}
 use Rattle.hs_parser.specs.Sentences.{IsWhole, NoneMissing}
 use Rattle.hs_syntax.specs.Sql.{sql}
 use Rattle.hs_syntax.specs.Statement.{table_grammar}
-use Rattle.hs_steps.specs.Steps.{Step, stands, deep, wrong, and_then}
-use Rattle.hs_steps.proofs.Effects.{heights, bottom, effect, statement}
-use Rattle.hs_steps.proofs.Heights.{none, more, height, Heights, joined, blank, changed, Framed, changed_framed}
-use Rattle.hs_steps.proofs.Marked.{Follows, step_right}
+use Rattle.hs_builder.specs.Steps.{Step, stands, deep, wrong, and_then}
+use Rattle.hs_builder.proofs.Effects.{heights, bottom, effect, statement}
+use Rattle.hs_builder.proofs.Heights.{none, more, height, Heights, joined, blank, changed, Framed, changed_framed}
+use Rattle.hs_builder.proofs.Marked.{Follows, step_right}
 use Rattle.hs_parser.proofs.RuleEffects.{needs, results}
 use Rattle.hs_parser.proofs.Typing.{typed, Runs, given}
 

@@ -5,12 +5,12 @@ use Rattle.hs_grammar.specs.declared.types.Item.{Item}
 use Rattle.hs_grammar.specs.declared.types.Item.TheVariants as item
 use Rattle.hs_lexer.specs.declared.token.Token.{Token}
 use Rattle.hs_lexer.specs.declared.token.TokenKind.TheVariants.{Symbol}
-use Rattle.hs_steps.specs.declared.build_fault.BuildFault.{BuildFault}
-use Rattle.hs_steps.specs.declared.build_fault.BuildFault.TheVariants.{Depth, NoMemory}
-use Rattle.hs_steps.specs.declared.mark.Mark.{Mark}
-use Rattle.hs_steps.specs.declared.part.Parts.{Parts}
+use Rattle.hs_builder.specs.declared.build_fault.BuildFault.{BuildFault}
+use Rattle.hs_builder.specs.declared.build_fault.BuildFault.TheVariants.{Depth, NoMemory}
+use Rattle.hs_builder.specs.declared.mark.Mark.{Mark}
+use Rattle.hs_builder.specs.declared.part.Parts.{Parts}
 use Rattle.hs_parser.specs.Marks.{steps}
-use Rattle.hs_steps.specs.Steps.{Step, stands, deep, wrong, and_then}
+use Rattle.hs_builder.specs.Steps.{Step, stands, deep, wrong, and_then}
 
 abbrev pub token_at : List Token → ℕ → Token
 token_at tokens at = unwrap_or (slice_get tokens at) (record { kind = Symbol; start = 0; end = 0 })

@@ -14,15 +14,15 @@ use Rattle.hs_ast.specs.declared.expression.Sign.TheVariants as Sign
 use Rattle.hs_ast.specs.declared.definition.Storage.TheVariants as Storage
 use Rattle.hs_ast.specs.declared.session.TransactionControl.TheVariants as TransactionControl
 use Rattle.hs_ast.specs.declared.expression.TrimForm.TheVariants as TrimForm
-use Rattle.hs_steps.specs.declared.mark.Mark.{Mark}
-use Rattle.hs_steps.specs.declared.mark.Mark.TheVariants as mark
-use Rattle.hs_steps.specs.declared.mark.LeafMark.TheVariants as leaf
-use Rattle.hs_steps.specs.declared.mark.ExpressionMark.TheVariants as e
-use Rattle.hs_steps.specs.declared.mark.FunctionMark.TheVariants as f
-use Rattle.hs_steps.specs.declared.mark.QueryMark.TheVariants as q
-use Rattle.hs_steps.specs.declared.mark.ChangeMark.TheVariants as c
-use Rattle.hs_steps.specs.declared.mark.DefinitionMark.TheVariants as d
-use Rattle.hs_steps.specs.declared.mark.SessionMark.TheVariants as s
+use Rattle.hs_builder.specs.declared.mark.Mark.{Mark}
+use Rattle.hs_builder.specs.declared.mark.Mark.TheVariants as mark
+use Rattle.hs_builder.specs.declared.mark.LeafMark.TheVariants as leaf
+use Rattle.hs_builder.specs.declared.mark.ExpressionMark.TheVariants as e
+use Rattle.hs_builder.specs.declared.mark.FunctionMark.TheVariants as f
+use Rattle.hs_builder.specs.declared.mark.QueryMark.TheVariants as q
+use Rattle.hs_builder.specs.declared.mark.ChangeMark.TheVariants as c
+use Rattle.hs_builder.specs.declared.mark.DefinitionMark.TheVariants as d
+use Rattle.hs_builder.specs.declared.mark.SessionMark.TheVariants as s
 
 abbrev pub steps : List Mark
 steps =

@@ -14,7 +14,7 @@ use Rattle.hs_syntax.specs.Classes.{classes_of}
 use Rattle.hs_syntax.specs.Literal.{IsBuiltBy}
 use Rattle.hs_syntax.specs.Sql.{sql}
 use Rattle.hs_syntax.specs.Statement.{IsFaultOf}
-use Rattle.hs_steps.specs.Steps.{Step, stands, deep}
+use Rattle.hs_builder.specs.Steps.{Step, stands, deep}
 
 -- ---- places
 

@@ -6,7 +6,7 @@ use Rattle.hs_grammar.specs.Grammar.{Sentence}
 use Rattle.hs_lexer.specs.declared.token.Token.{Token}
 use Rattle.hs_parser.specs.Building.{tree_of}
 use Rattle.hs_syntax.specs.Sql.{sql}
-use Rattle.hs_steps.specs.Steps.{Step, stands, deep, wrong}
+use Rattle.hs_builder.specs.Steps.{Step, stands, deep, wrong}
 
 -- it stands, or is too deep
 abbrev pub IsWhole : Step Stmt → Type 0

@@ -1,14 +1,14 @@
 // The tree of a sentence: its items, one after another, on stacks of parts.
 ghost use Rattle.std.specs.Prelude.{◌≡◌, ◌+◌, ◌-◌, ◌<◌, ◌≤◌, MatchResult, MatchOption, length, slice_get, Some, None};
-ghost use Rattle.hs_steps.specs.MarkSteps.{step, no_parts};
+ghost use Rattle.hs_builder.specs.MarkSteps.{step, no_parts};
 ghost use Rattle.hs_parser.specs.Building.{token_at, marked, built, tree_of, Acts};
-ghost use Rattle.hs_steps.specs.Steps.{Gives, Answers};
+ghost use Rattle.hs_builder.specs.Steps.{Gives, Answers};
 
 use crate::marks::MARKS;
 use hs_ast::Stmt;
+use hs_builder::{BuildFault, Mark, Parts};
 use hs_grammar::Item;
 use hs_lexer::{Token, TokenKind};
-use hs_steps::{BuildFault, Mark, Parts};
 use std::alloc::Global;
 
 /// The token at a place of the list; one that is nowhere, past its end.

@@ -3,7 +3,7 @@ use hs_ast::{
     Access, Aggregate, BinaryOperator, DataType, DateField, Function, IntervalUnit, Isolation,
     ReferentialAction, SetOperator, Sign, Storage, TransactionControl, TrimForm,
 };
-use hs_steps::{
+use hs_builder::{
     ChangeMark, DefinitionMark, ExpressionMark, FunctionMark, LeafMark, Mark, QueryMark,
     SessionMark,
 };

@@ -6,9 +6,9 @@ ghost use Rattle.hs_parser.specs.Parsed as spec;
 use crate::building::build;
 use crate::syntax_fault::SyntaxFault;
 use hs_ast::Stmt;
+use hs_builder::BuildFault;
 use hs_grammar::{Fault, Item};
 use hs_lexer::{Token, Tokens, written};
-use hs_steps::BuildFault;
 use hs_syntax::{classes, recognised};
 use std::alloc::Global;
 

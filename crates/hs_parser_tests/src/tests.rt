@@ -8,7 +8,7 @@ mod texts_of_expressions;
 mod texts_of_queries;
 mod texts_of_statements;
 
-use hs_ast::Stmt;
+use hs_ast::{Identifier, Literal, Stmt, Word};
 use hs_lexer::{LexFault, tokens};
 use hs_parser::{SyntaxFault, statement};
 use shape::Shape;
@@ -42,6 +42,7 @@ fn place_of(fault: LexFault) -> Result<u32, Fail> {
     }
 }
 
+/// What is said of a text. The tree is a copy of the one that is answered, so that copies are tried on every tree.
 fn said(alloc: Global, text: &str, manner: Manner) -> Result<String, Fail> {
     if text.len() > 65_536 {
         return Err("too long")?;
@@ -54,7 +55,7 @@ fn said(alloc: Global, text: &str, manner: Manner) -> Result<String, Fail> {
         }
     };
     match statement(alloc, text, &found) {
-        Ok(tree) => shown(alloc, &tree, manner),
+        Ok(tree) => shown(alloc, &tree.copy(alloc)?, manner),
         Err(SyntaxFault::At(at)) => Ok(format!(in alloc; "at {at}")?),
         Err(SyntaxFault::NotOffered(at)) => Ok(format!(in alloc; "not offered at {at}")?),
         Err(SyntaxFault::Depth) => Ok(String::from_str(alloc, "depth")?),
@@ -186,5 +187,22 @@ fn long_and_deep(rt: HostRuntime) -> Result<(), Fail> {
         compared(alloc, text.as_str(), Manner::Bare, want, &mut wrong)?;
     }
     assert_eq!(rt; wrong.as_str(), "");
+    Ok(())
+}
+
+#[test]
+fn words_are_texts(rt: HostRuntime) -> Result<(), Fail> {
+    let word = Word::from_string(String::from_str(rt.alloc(), "añb")?);
+    assert_eq!(rt; word.as_str(), "añb");
+    assert_eq!(rt; word.copy(rt.alloc())?.into_string().as_str(), "añb");
+    let name = Identifier {
+        name: Word::from_text(rt.alloc(), "T")?,
+        at: 7,
+    };
+    let copied = name.copy(rt.alloc())?;
+    assert_eq!(rt; copied.name.as_str(), "T");
+    assert_eq!(rt; copied.at, 7);
+    let literal = Literal::Date(word);
+    assert!(rt; matches!(&literal.copy(rt.alloc())?, Literal::Date(_)));
     Ok(())
 }

@@ -1,5 +1,5 @@
 use Rattle.std.proofs.Common.{◌≡◌, ◌≤◌, drop}
-use Rattle.hs_steps.specs.MarkSteps.{no_parts}
+use Rattle.hs_builder.specs.MarkSteps.{no_parts}
 use Rattle.hs_parser.specs.Building.{built}
 use Rattle.hs_parser.proofs.building.build.Given as goal
 

@@ -1,0 +1,306 @@
+-- What each mark takes from the stacks and puts on them, by the kinds of parts, each kind on a stack of its own.
+use Rattle.std.proofs.Common.{ℕ, List, [], ◌∷◌}
+use Rattle.hs_builder.specs.declared.mark.Mark.{Mark}
+use Rattle.hs_builder.specs.declared.mark.Mark.TheVariants as mark
+use Rattle.hs_builder.specs.declared.mark.LeafMark.{LeafMark}
+use Rattle.hs_builder.specs.declared.mark.LeafMark.TheVariants as leaf_mark
+use Rattle.hs_builder.specs.declared.mark.ExpressionMark.{ExpressionMark}
+use Rattle.hs_builder.specs.declared.mark.ExpressionMark.TheVariants as e_mark
+use Rattle.hs_builder.specs.declared.mark.FunctionMark.{FunctionMark}
+use Rattle.hs_builder.specs.declared.mark.FunctionMark.TheVariants as f_mark
+use Rattle.hs_builder.specs.declared.mark.QueryMark.{QueryMark}
+use Rattle.hs_builder.specs.declared.mark.QueryMark.TheVariants as q_mark
+use Rattle.hs_builder.specs.declared.mark.ChangeMark.{ChangeMark}
+use Rattle.hs_builder.specs.declared.mark.ChangeMark.TheVariants as c_mark
+use Rattle.hs_builder.specs.declared.mark.DefinitionMark.{DefinitionMark}
+use Rattle.hs_builder.specs.declared.mark.DefinitionMark.TheVariants as d_mark
+use Rattle.hs_builder.specs.declared.mark.SessionMark.{SessionMark}
+use Rattle.hs_builder.specs.declared.mark.SessionMark.TheVariants as s_mark
+use Rattle.hs_builder.specs.declared.part.Parts.{Parts}
+use Rattle.hs_builder.proofs.Heights.{none, height, Heights, Effect}
+
+-- ---- the stacks, by their numbers
+
+abbrev pub place : ℕ
+place = 0
+
+abbrev pub name : ℕ
+name = 1
+
+abbrev pub names : ℕ
+names = 2
+
+abbrev pub alias : ℕ
+alias = 3
+
+abbrev pub flag : ℕ
+flag = 4
+
+abbrev pub number : ℕ
+number = 5
+
+abbrev pub text : ℕ
+text = 6
+
+abbrev pub literal : ℕ
+literal = 7
+
+abbrev pub type : ℕ
+type = 8
+
+abbrev pub e : ℕ
+e = 9
+
+abbrev pub es : ℕ
+es = 10
+
+abbrev pub case : ℕ
+case = 11
+
+abbrev pub form : ℕ
+form = 12
+
+abbrev pub field : ℕ
+field = 13
+
+abbrev pub count : ℕ
+count = 14
+
+abbrev pub select : ℕ
+select = 15
+
+abbrev pub table : ℕ
+table = 16
+
+abbrev pub from : ℕ
+from = 17
+
+abbrev pub rows : ℕ
+rows = 18
+
+abbrev pub body : ℕ
+body = 19
+
+abbrev pub query : ℕ
+query = 20
+
+abbrev pub target : ℕ
+target = 21
+
+abbrev pub tuple : ℕ
+tuple = 22
+
+abbrev pub tuples : ℕ
+tuples = 23
+
+abbrev pub update : ℕ
+update = 24
+
+abbrev pub delete : ℕ
+delete = 25
+
+abbrev pub locks : ℕ
+locks = 26
+
+abbrev pub definition : ℕ
+definition = 27
+
+abbrev pub column : ℕ
+column = 28
+
+abbrev pub header : ℕ
+header = 29
+
+abbrev pub key : ℕ
+key = 30
+
+abbrev pub action : ℕ
+action = 31
+
+abbrev pub constraint : ℕ
+constraint = 32
+
+abbrev pub modes : ℕ
+modes = 33
+
+abbrev pub statement : ℕ
+statement = 34
+
+abbrev pub heights : Parts → Heights
+heights p =
+    height p.leaves.places ∷ height p.leaves.names ∷ height p.leaves.name_lists ∷ height p.leaves.aliases ∷ height p.leaves.flags ∷ height p.leaves.numbers ∷ height p.leaves.texts ∷ height p.leaves.literals ∷ height p.leaves.types ∷ height p.expressions.whole ∷ height p.expressions.lists ∷ height p.expressions.cases ∷ height p.expressions.forms ∷ height p.expressions.fields ∷ height p.expressions.counts ∷ height p.queries.selects ∷ height p.queries.tables ∷ height p.queries.froms ∷ height p.queries.rows ∷ height p.queries.bodies ∷ height p.queries.whole ∷ height p.changes.targets ∷ height p.changes.tuples ∷ height p.changes.tuple_lists ∷ height p.changes.updates ∷ height p.changes.deletes ∷ height p.changes.locks ∷ height p.definitions.tables ∷ height p.definitions.columns ∷ height p.definitions.headers ∷ height p.definitions.keys ∷ height p.definitions.actions ∷ height p.definitions.constraints ∷ height p.modes ∷ height p.statements ∷ []
+
+abbrev pub bottom : Heights
+bottom = none ∷ none ∷ none ∷ none ∷ none ∷ none ∷ none ∷ none ∷ none ∷ none ∷ none ∷ none ∷ none ∷ none ∷ none ∷ none ∷ none ∷ none ∷ none ∷ none ∷ none ∷ none ∷ none ∷ none ∷ none ∷ none ∷ none ∷ none ∷ none ∷ none ∷ none ∷ none ∷ none ∷ none ∷ none ∷ []
+
+abbrev pub by : List ℕ → List ℕ → Effect
+by takes puts = record { takes = takes; puts = puts }
+
+abbrev pub leaves : LeafMark → Effect
+leaves leaf_mark.Place = by [] (place ∷ [])
+leaves leaf_mark.Here = by [] (place ∷ [])
+leaves leaf_mark.Name = by [] (name ∷ [])
+leaves leaf_mark.FirstName = by (name ∷ []) (names ∷ [])
+leaves leaf_mark.NextName = by (name ∷ names ∷ []) (names ∷ [])
+leaves leaf_mark.Alias = by (name ∷ []) (alias ∷ [])
+leaves leaf_mark.NoAlias = by [] (alias ∷ [])
+leaves (leaf_mark.Flag _) = by [] (flag ∷ [])
+leaves leaf_mark.Number = by [] (number ∷ [])
+leaves leaf_mark.Text = by [] (text ∷ [])
+leaves leaf_mark.NumberLiteral = by (number ∷ []) (literal ∷ [])
+leaves leaf_mark.TextLiteral = by (text ∷ []) (literal ∷ [])
+leaves (leaf_mark.Boolean _) = by [] (literal ∷ [])
+leaves leaf_mark.Null = by [] (literal ∷ [])
+leaves leaf_mark.Date = by (place ∷ text ∷ []) (literal ∷ [])
+leaves leaf_mark.Timestamp = by (place ∷ text ∷ []) (literal ∷ [])
+leaves (leaf_mark.SignedLiteral _) = by (place ∷ number ∷ []) (literal ∷ [])
+leaves (leaf_mark.Type _) = by [] (type ∷ [])
+leaves leaf_mark.PlainDecimal = by [] (type ∷ [])
+leaves leaf_mark.Decimal = by (number ∷ []) (type ∷ [])
+leaves leaf_mark.DecimalScale = by (number ∷ number ∷ []) (type ∷ [])
+leaves leaf_mark.Varchar = by (number ∷ []) (type ∷ [])
+
+abbrev pub expressions : ExpressionMark → Effect
+expressions e_mark.Literal = by (literal ∷ []) (e ∷ [])
+expressions e_mark.Column = by (name ∷ []) (e ∷ [])
+expressions e_mark.Qualified = by (name ∷ name ∷ []) (e ∷ [])
+expressions e_mark.Bracket = by (place ∷ e ∷ []) (e ∷ [])
+expressions (e_mark.Signed _) = by (place ∷ e ∷ []) (e ∷ [])
+expressions e_mark.Not = by (place ∷ e ∷ []) (e ∷ [])
+expressions (e_mark.Binary _) = by (e ∷ e ∷ []) (e ∷ [])
+expressions (e_mark.IsNull _) = by (e ∷ []) (e ∷ [])
+expressions e_mark.Between = by (flag ∷ e ∷ e ∷ e ∷ []) (e ∷ [])
+expressions e_mark.Like = by (flag ∷ e ∷ e ∷ []) (e ∷ [])
+expressions e_mark.LikeEscape = by (flag ∷ text ∷ e ∷ e ∷ []) (e ∷ [])
+expressions e_mark.InList = by (flag ∷ e ∷ es ∷ []) (e ∷ [])
+expressions e_mark.InQuery = by (flag ∷ e ∷ query ∷ []) (e ∷ [])
+expressions e_mark.Exists = by (place ∷ query ∷ []) (e ∷ [])
+expressions e_mark.Subquery = by (place ∷ query ∷ []) (e ∷ [])
+expressions e_mark.BodySubquery = by (place ∷ body ∷ []) (e ∷ [])
+expressions e_mark.Digits = by (text ∷ []) (count ∷ [])
+expressions (e_mark.Interval _ _) = by (e ∷ count ∷ []) (e ∷ [])
+expressions e_mark.First = by (e ∷ []) (es ∷ [])
+expressions e_mark.Next = by (e ∷ es ∷ []) (es ∷ [])
+
+abbrev pub functions : FunctionMark → Effect
+functions f_mark.Cast = by (place ∷ type ∷ e ∷ []) (e ∷ [])
+functions f_mark.Case = by [] (case ∷ [])
+functions f_mark.Arm = by (case ∷ e ∷ e ∷ []) (case ∷ [])
+functions f_mark.Else = by (case ∷ e ∷ []) (case ∷ [])
+functions f_mark.End = by (case ∷ []) (e ∷ [])
+functions (f_mark.Call _) = by (place ∷ es ∷ []) (e ∷ [])
+functions f_mark.Substring = by (place ∷ e ∷ e ∷ []) (e ∷ [])
+functions f_mark.SubstringFor = by (place ∷ e ∷ e ∷ e ∷ []) (e ∷ [])
+functions (f_mark.Form _) = by [] (form ∷ [])
+functions f_mark.Trim = by (place ∷ form ∷ e ∷ []) (e ∷ [])
+functions f_mark.TrimCharacter = by (place ∷ form ∷ e ∷ e ∷ []) (e ∷ [])
+functions (f_mark.Field _) = by [] (field ∷ [])
+functions f_mark.Extract = by (place ∷ field ∷ e ∷ []) (e ∷ [])
+functions f_mark.CountRows = by (place ∷ []) (e ∷ [])
+functions (f_mark.Aggregate _) = by (place ∷ flag ∷ e ∷ []) (e ∷ [])
+
+abbrev pub queries : QueryMark → Effect
+queries q_mark.Select = by (place ∷ flag ∷ []) (select ∷ [])
+queries q_mark.Every = by (select ∷ []) (select ∷ [])
+queries q_mark.Item = by (alias ∷ e ∷ select ∷ []) (select ∷ [])
+queries q_mark.Table = by (name ∷ alias ∷ []) (table ∷ [])
+queries q_mark.Derived = by (name ∷ query ∷ []) (table ∷ [])
+queries q_mark.From = by (table ∷ []) (from ∷ [])
+queries (q_mark.Join _) = by (e ∷ table ∷ from ∷ []) (from ∷ [])
+queries q_mark.CrossJoin = by (table ∷ from ∷ []) (from ∷ [])
+queries q_mark.AddFrom = by (from ∷ select ∷ []) (select ∷ [])
+queries q_mark.Where = by (e ∷ select ∷ []) (select ∷ [])
+queries q_mark.Group = by (e ∷ select ∷ []) (select ∷ [])
+queries q_mark.Having = by (e ∷ select ∷ []) (select ∷ [])
+queries q_mark.SelectBody = by (select ∷ []) (body ∷ [])
+queries q_mark.Values = by [] (rows ∷ [])
+queries q_mark.Row = by (es ∷ rows ∷ []) (rows ∷ [])
+queries q_mark.ValuesBody = by (rows ∷ []) (body ∷ [])
+queries q_mark.BracketBody = by (place ∷ body ∷ []) (body ∷ [])
+queries (q_mark.SetOperation _) = by (body ∷ body ∷ []) (body ∷ [])
+queries q_mark.Query = by (body ∷ []) (query ∷ [])
+queries (q_mark.Key _) = by (e ∷ query ∷ []) (query ∷ [])
+queries q_mark.Limit = by (number ∷ query ∷ []) (query ∷ [])
+queries q_mark.Offset = by (number ∷ query ∷ []) (query ∷ [])
+
+abbrev pub changes : ChangeMark → Effect
+changes c_mark.QueryStatement = by (query ∷ []) (statement ∷ [])
+changes c_mark.Insert = by (name ∷ []) (target ∷ [])
+changes c_mark.InsertColumns = by (place ∷ names ∷ target ∷ []) (target ∷ [])
+changes c_mark.Tuples = by [] (tuples ∷ [])
+changes c_mark.Tuple = by [] (tuple ∷ [])
+changes c_mark.TupleValue = by (e ∷ tuple ∷ []) (tuple ∷ [])
+changes c_mark.TupleDefault = by (tuple ∷ []) (tuple ∷ [])
+changes c_mark.AddTuple = by (tuple ∷ tuples ∷ []) (tuples ∷ [])
+changes c_mark.TuplesBody = by (tuples ∷ []) (body ∷ [])
+changes c_mark.InsertTuples = by (target ∷ tuples ∷ []) (statement ∷ [])
+changes c_mark.InsertQuery = by (target ∷ query ∷ []) (statement ∷ [])
+changes c_mark.Update = by (name ∷ alias ∷ []) (update ∷ [])
+changes c_mark.Assign = by (name ∷ e ∷ update ∷ []) (update ∷ [])
+changes c_mark.AssignDefault = by (name ∷ update ∷ []) (update ∷ [])
+changes c_mark.UpdateWhere = by (e ∷ update ∷ []) (update ∷ [])
+changes c_mark.UpdateStatement = by (update ∷ []) (statement ∷ [])
+changes c_mark.Delete = by (name ∷ alias ∷ []) (delete ∷ [])
+changes c_mark.DeleteWhere = by (e ∷ delete ∷ []) (delete ∷ [])
+changes c_mark.DeleteStatement = by (delete ∷ []) (statement ∷ [])
+changes c_mark.Lock = by [] (locks ∷ [])
+changes (c_mark.Locked _) = by (name ∷ locks ∷ []) (locks ∷ [])
+changes c_mark.LockStatement = by (locks ∷ []) (statement ∷ [])
+
+abbrev pub definitions : DefinitionMark → Effect
+definitions (d_mark.Create _) = by (name ∷ []) (definition ∷ [])
+definitions d_mark.ColumnElement = by (column ∷ definition ∷ []) (definition ∷ [])
+definitions d_mark.ConstraintElement = by (constraint ∷ definition ∷ []) (definition ∷ [])
+definitions d_mark.CreateStatement = by (definition ∷ []) (statement ∷ [])
+definitions d_mark.CreateIndex = by (name ∷ name ∷ names ∷ []) (statement ∷ [])
+definitions d_mark.Define = by (name ∷ type ∷ []) (column ∷ [])
+definitions d_mark.Default = by (literal ∷ column ∷ []) (column ∷ [])
+definitions d_mark.Named = by (place ∷ name ∷ []) (header ∷ [])
+definitions d_mark.Unnamed = by (place ∷ []) (header ∷ [])
+definitions d_mark.NotNull = by (header ∷ column ∷ []) (column ∷ [])
+definitions d_mark.ColumnPrimary = by (header ∷ column ∷ []) (column ∷ [])
+definitions d_mark.ColumnUnique = by (header ∷ column ∷ []) (column ∷ [])
+definitions d_mark.ColumnCheck = by (e ∷ header ∷ column ∷ []) (column ∷ [])
+definitions d_mark.ColumnReferences = by (key ∷ header ∷ column ∷ []) (column ∷ [])
+definitions d_mark.References = by (name ∷ []) (key ∷ [])
+definitions d_mark.ParentColumns = by (names ∷ key ∷ []) (key ∷ [])
+definitions (d_mark.Action _) = by [] (action ∷ [])
+definitions d_mark.OnDelete = by (action ∷ key ∷ []) (key ∷ [])
+definitions d_mark.OnUpdate = by (action ∷ key ∷ []) (key ∷ [])
+definitions d_mark.TablePrimary = by (header ∷ names ∷ []) (constraint ∷ [])
+definitions d_mark.TableUnique = by (header ∷ names ∷ []) (constraint ∷ [])
+definitions d_mark.TableCheck = by (e ∷ header ∷ []) (constraint ∷ [])
+definitions d_mark.TableForeign = by (header ∷ names ∷ key ∷ []) (constraint ∷ [])
+definitions d_mark.AddColumn = by (name ∷ column ∷ []) (statement ∷ [])
+definitions d_mark.AddConstraint = by (name ∷ constraint ∷ []) (statement ∷ [])
+definitions d_mark.DropConstraint = by (name ∷ name ∷ []) (statement ∷ [])
+definitions d_mark.DropTable = by (name ∷ []) (statement ∷ [])
+definitions d_mark.DropIndex = by (name ∷ []) (statement ∷ [])
+
+abbrev pub sessions : SessionMark → Effect
+sessions s_mark.Modes = by [] (modes ∷ [])
+sessions (s_mark.Level _) = by (modes ∷ []) (modes ∷ [])
+sessions (s_mark.Access _) = by (modes ∷ []) (modes ∷ [])
+sessions s_mark.SetTransaction = by (modes ∷ []) (statement ∷ [])
+sessions s_mark.SetCharacteristics = by (modes ∷ []) (statement ∷ [])
+sessions s_mark.Start = by (modes ∷ []) (statement ∷ [])
+sessions s_mark.Commit = by [] (statement ∷ [])
+sessions s_mark.Rollback = by [] (statement ∷ [])
+sessions s_mark.Savepoint = by (name ∷ []) (statement ∷ [])
+sessions s_mark.RollbackTo = by (name ∷ []) (statement ∷ [])
+sessions s_mark.Release = by (name ∷ []) (statement ∷ [])
+sessions (s_mark.Autocommit _) = by [] (statement ∷ [])
+sessions (s_mark.Control _) = by [] (statement ∷ [])
+sessions (s_mark.DefaultLevel _) = by [] (statement ∷ [])
+sessions s_mark.WriteDelayFalse = by [] (statement ∷ [])
+sessions s_mark.Checkpoint = by [] (statement ∷ [])
+sessions s_mark.Shutdown = by [] (statement ∷ [])
+
+abbrev pub effect : Mark → Effect
+effect (mark.Leaf m) = leaves m
+effect (mark.Expression m) = expressions m
+effect (mark.Function m) = functions m
+effect (mark.Query m) = queries m
+effect (mark.Change m) = changes m
+effect (mark.Definition m) = definitions m
+effect (mark.Session m) = sessions m
