@@ -1,7 +1,7 @@
 // Why an item is refused.
 use hs_values::Name;
 
-/// Why an item is refused. It then changes nothing.
+/// Why an item is refused. It then changes no table.
 #[derive(Debug, Drop)]
 pub enum Refusal {
     /// The entry has more than 65,536 bytes.

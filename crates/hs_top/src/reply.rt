@@ -11,7 +11,7 @@ pub enum Reply {
         /// The number of its commit, counted from 1.
         committed: Option<u64>,
     },
-    /// It was refused, and nothing is changed.
+    /// It was refused, and no table is changed.
     Refused(Refusal),
 }
 

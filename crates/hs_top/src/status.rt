@@ -19,7 +19,7 @@ pub enum Status {
     DiskFault,
     /// Memory was refused. No rule says when.
     NoMemory,
-    /// The files stand for no database. Nothing was read or written, and no file changed.
+    /// The files stand for no database. No input was read, no output written, and no file changed.
     Damaged(Damage),
     /// The next item, or the end of the input, was needed and isn't within the first 2^30 bytes of the
     /// input, which has more.

@@ -1,0 +1,64 @@
+#!/usr/bin/env bash
+# Brings the built program to each way in which a run ends, and looks at its exit status and at standard error.
+#
+# usage: bench/statuses.sh
+#
+# No contract speaks of either, and the gate runs the program to status 0 only. Want of memory is looked at by
+# bench/fail_alloc.sh. A full disk is a device that is always full, and a failing read of standard input is a folder in its
+# place. This is no part of the gate.
+set -eu
+top=$(cd "$(dirname "${BASH_SOURCE[0]}")/.." && pwd)
+work=$(mktemp -d)
+trap 'rm -rf "$work"' EXIT
+"$top/bin/hsql" "$work/built" </dev/null >/dev/null
+program="$top/crates/hsql/out/hsql"
+count=0
+
+# ended STATUS MESSAGE COMMAND..: the command, with the standard input and output of the call, ends so.
+ended() {
+    local wanted=$1 message=$2 status=0
+    shift 2
+    "$@" 2>"$work/errors" || status=$?
+    if [ "$status" != "$wanted" ] || [ "$(cat "$work/errors")" != "$message" ]; then
+        echo "statuses.sh: '$*' ended with $status and '$(cat "$work/errors")' in place of $wanted and '$message'" >&2
+        exit 1
+    fi
+    count=$((count + 1))
+}
+
+commit='a: CREATE TABLE T (N BIGINT);'
+echo "$commit" >"$work/commit"
+ended 0 "" "$program" "$work/db" <"$work/commit" >/dev/null
+ended 0 "" "$program" "$work/db" </dev/null >/dev/null
+
+for words in "" "-db" "db more"; do
+    # Words are parted here: each of these is a command line.
+    # shellcheck disable=SC2086
+    ended 1 "hsql: usage" "$program" $words </dev/null >/dev/null
+done
+ended 1 "hsql: usage" "$program" "" </dev/null >/dev/null
+
+ended 2 "hsql: input fault" "$program" "$work/db" <"$work" >/dev/null
+ended 3 "hsql: output fault" "$program" "$work/db" </dev/null >/dev/full
+
+ended 4 "hsql: disk fault" "$program" "$work/none/db" </dev/null >/dev/null
+mkdir "$work/taken.log"
+ended 4 "hsql: disk fault" "$program" "$work/taken" </dev/null >/dev/null
+
+touch "$work/other.properties"
+ended 6 "hsql: damaged foreign" "$program" "$work/other" <"$work/commit" >/dev/null
+if [ -e "$work/other.log" ]; then
+    echo "statuses.sh: a file was made beside foreign ones" >&2
+    exit 1
+fi
+
+# The closed gate at the log's end is opened, with no group behind it; and a log is born, but not open.
+cp "$work/db.log" "$work/torn.log"
+printf '\001' | dd of="$work/torn.log" bs=1 seek="$(($(stat -c %s "$work/torn.log") - 1))" conv=notrunc status=none
+ended 6 "hsql: damaged log 2" "$program" "$work/torn" <"$work/commit" >/dev/null
+printf '\001\000' >"$work/closed.log"
+ended 6 "hsql: damaged log 0" "$program" "$work/closed" <"$work/commit" >/dev/null
+
+head -c $(((1 << 30) + 1)) /dev/zero | ended 7 "hsql: input too long" "$program" "$work/db" >/dev/null
+
+echo "the program ended $((count + 1)) times, with each status and its message as they are to be"
