@@ -10,6 +10,7 @@ use Rattle.hs_builder.specs.declared.build_fault.BuildFault.TheVariants.{Depth, 
 use Rattle.hs_builder.specs.declared.mark.Mark.{Mark}
 use Rattle.hs_builder.specs.declared.part.Parts.{Parts}
 use Rattle.hs_parser.specs.Marks.{steps}
+use Rattle.hs_builder.specs.MarkSteps.{step, no_parts, topmost}
 use Rattle.hs_builder.specs.Steps.{Step, stands, deep, wrong, and_then}
 
 abbrev pub token_at : List Token → ℕ → Token

@@ -14,10 +14,12 @@ pub mod Pushed
 pub mod Queries
 pub mod Reopened
 pub mod Safe
+pub mod Repeated
 pub mod Replayed
 pub mod Rows
 pub mod Runs
 pub mod Spelled
+pub mod Tables
 pub mod Taken
 pub mod Told
 pub mod Turns

@@ -72,7 +72,7 @@ selected_quiet : (db : Database) (name : List ℕ) (there : Option Table) → is
 selected_quiet db name None is = absurd (cc)
 selected_quiet db name (Some t) is = absurd (cc)
 
-executed_same : (db : Database) (s : Statement) → is_commit (executed db s).reply ≡ false → (executed db s).database ≡ db
+pub executed_same : (db : Database) (s : Statement) → is_commit (executed db s).reply ≡ false → (executed db s).database ≡ db
 executed_same db (Create name columns) is = created_same db name columns (table_of db.tables name) (first_repeated [] columns) is
 executed_same db (Insert name row) is = inserted_same db name row (table_of db.tables name) is
 executed_same db (Select name) is = selected_same db name (table_of db.tables name)
@@ -102,7 +102,7 @@ inserted_counts db name row (Some t) is = turned (length row == length t.columns
     turned true is = refl
     turned false is = absurd (cc)
 
-executed_counts : (db : Database) (s : Statement) → is_commit (executed db s).reply ≡ true → (executed db s).database.commits ≡ db.commits + 1
+pub executed_counts : (db : Database) (s : Statement) → is_commit (executed db s).reply ≡ true → (executed db s).database.commits ≡ db.commits + 1
 executed_counts db (Create name columns) is = created_counts db name columns (table_of db.tables name) (first_repeated [] columns) is
 executed_counts db (Insert name row) is = inserted_counts db name row (table_of db.tables name) is
 executed_counts db (Select name) is = absurd (selected_quiet db name (table_of db.tables name) is)

@@ -1,5 +1,5 @@
 -- The database, and what a statement does to it.
-use Rattle.std.specs.Prelude.{ℕ, ◌+◌, Bool, ◌==◌, nat_le, List, [], ◌∷◌, ◌++◌, length, Option, None, Some, if◌then◌else◌}
+use Rattle.std.specs.Prelude.{◌≡◌, ℕ, ◌+◌, Bool, true, ◌==◌, nat_le, List, [], ◌∷◌, ◌++◌, length, Option, None, Some, if◌then◌else◌}
 use Rattle.std.specs.List.{list_any}
 use Rattle.std.specs.Str.{bytes_eq}
 use Rattle.hs_values.specs.declared.value.Value.{Value}
@@ -47,6 +47,14 @@ is_among name names = list_any (bytes_eq name) names
 abbrev pub first_repeated : List (List ℕ) → List (List ℕ) → Option (List ℕ)
 first_repeated earlier [] = None
 first_repeated earlier (n ∷ ns) = if is_among n earlier then Some n else first_repeated (earlier ++ n ∷ []) ns
+
+-- A name stands behind others, among which it is, and of which none repeats an earlier one.
+pub record Repeats (names : List (List ℕ)) (name : List ℕ) : Type 0 where
+  pub before : List (List ℕ)
+  pub behind : List (List ℕ)
+  pub is : names ≡ before ++ name ∷ behind
+  pub again : is_among name before ≡ true
+  pub first : first_repeated [] before ≡ None
 
 -- What a statement does: the rows of its answer, its final reply, and the database after it. Only a
 -- query has rows.
@@ -98,3 +106,9 @@ executed db (Select name) = selected db name (table_of db.tables name)
 abbrev pub performed : Database → Option Statement → Outcome
 performed db None = refused db NotBuilt
 performed db (Some statement) = executed db statement
+
+-- the table that a statement names
+abbrev pub named_by : Statement → List ℕ
+named_by (Create name columns) = name
+named_by (Insert name row) = name
+named_by (Select name) = name

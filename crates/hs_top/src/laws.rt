@@ -1,8 +1,12 @@
 // Laws of the machine and of texts, which say that their definitions mean what they are to mean.
-ghost use Rattle.std.specs.Prelude.{◌≡◌, ℕ, List, [], ◌++◌, Option, Some, Ok, IfSome};
+ghost use Rattle.std.specs.Prelude.{◌≡◌, ℕ, ◌+◌, List, [], ◌∷◌, ◌++◌, Option, None, Some, Ok, IfSome, true, false};
+ghost use Rattle.hs_values.specs.declared.value.Value.{Value};
 ghost use Rattle.hs_top.specs.declared.commit_text.Commit.{Commit};
+ghost use Rattle.hs_top.specs.declared.database.Database.{Database};
 ghost use Rattle.hs_top.specs.declared.statement.Statement.{Statement};
-ghost use Rattle.hs_top.specs.Machine.{Machine, IsOver, turn, steps, turns_left};
+ghost use Rattle.hs_top.specs.declared.table.Table.{Table};
+ghost use Rattle.hs_top.specs.Database.{executed, first_repeated, is_among, named_by, table_of, Repeats};
+ghost use Rattle.hs_top.specs.Machine.{Machine, IsOver, turn, steps, turns_left, is_commit};
 ghost use Rattle.hs_top.specs.Opening.{Opened, opened_of, replayed, texts_at, texts_from, ended_with, IsWholeLog};
 ghost use Rattle.hs_top.specs.Statement.{statement_of};
 ghost use Rattle.hs_top.specs.Spelling.{IsSpellable, spelled};
@@ -16,6 +20,22 @@ pub fn runs_end()
 /// A machine that has come to its end stays as it is and writes nothing.
 pub fn turns_change_nothing_at_the_end()
     ensures { (m : Machine) → IsOver m → turn m ≡ record { lines = []; texts = []; next = m } }
+{}
+
+/// What a statement changes: nothing where it doesn't commit, and the count of commits by one where it does. Of the tables it changes
+/// that of its name alone. CREATE TABLE makes it, where there is none, without rows, and INSERT puts a row behind its others.
+pub fn statements_change_their_own_table()
+    ensures quiet { (db : Database) (s : Statement) → is_commit (executed db s).reply ≡ false → (executed db s).database ≡ db }
+    ensures counted { (db : Database) (s : Statement) → is_commit (executed db s).reply ≡ true → (executed db s).database.commits ≡ db.commits + 1 }
+    ensures others { (db : Database) (s : Statement) (name : List ℕ) → (name ≡ named_by s → ⊥) → table_of (executed db s).database.tables name ≡ table_of db.tables name }
+    ensures created { (db : Database) (name : List ℕ) (columns : List (List ℕ)) → is_commit (executed db (Statement.Create name columns)).reply ≡ true → (table_of db.tables name ≡ None) × (table_of (executed db (Statement.Create name columns)).database.tables name ≡ Some (record { columns = columns; rows = [] })) }
+    ensures inserted { (db : Database) (name : List ℕ) (row : List Value) (table : Table) → table_of db.tables name ≡ Some table → is_commit (executed db (Statement.Insert name row)).reply ≡ true → table_of (executed db (Statement.Insert name row)).database.tables name ≡ Some (record table { rows = table.rows ++ row ∷ [] }) }
+{}
+
+/// The first name that repeats an earlier one is found where there is one.
+pub fn the_first_repeated_name_is_found()
+    ensures found { (names : List (List ℕ)) (name : List ℕ) → first_repeated [] names ≡ Some name → Repeats names name }
+    ensures none { (before behind : List (List ℕ)) (name : List ℕ) → first_repeated [] (before ++ name ∷ behind) ≡ None → is_among name before ≡ false }
 {}
 
 /// A text that is read as a statement is the one spelling of that statement.
