@@ -1,4 +1,5 @@
 pub mod Carried
+pub mod Failed
 pub mod Fronts
 pub mod Looking
 pub mod Moments

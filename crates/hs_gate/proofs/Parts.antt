@@ -1,16 +1,18 @@
 -- The group at a place.
-use Rattle.std.proofs.Common.{◌≡◌, ℕ, ◌+◌, ◌-◌, ◌<◌, ◌≤◌, List, [], ◌∷◌, ◌++◌, length, take, drop, refl, sym, ◌∙◌, ap, arith, append_assoc, length-drop}
-use Rattle.std.proofs.lemmas.List.{take-take, length-take-le}
+use Rattle.std.proofs.Common.{◌≡◌, ℕ, ◌+◌, ◌-◌, ◌<◌, ◌≤◌, ◌^◌, List, [], ◌∷◌, ◌++◌, length, take, drop, replicate, refl, sym, ◌∙◌, ap, arith, append_assoc, length-append, length-take, length-drop}
+use Rattle.std.proofs.lemmas.List.{take-take, take_at, length-take-le, length-replicate}
 use Rattle.hs_host.specs.Files.{Five, of, piece}
 use Rattle.hs_gate.specs.declared.found.Found.{Found}
 use Rattle.hs_gate.specs.declared.found.Found.TheVariants.{Group}
 use Rattle.hs_gate.specs.declared.gated.Gated.{Gated}
-use Rattle.hs_gate.specs.Groups.{ahead, spelled, end_of, groups_at, groups_of}
+use Rattle.hs_gate.specs.Groups.{ahead, group, spelled, end_of, groups_at, groups_of}
 use Rattle.hs_gate.specs.Scan.{found_in}
 use Rattle.hs_gate.specs.Gated.{IsFront, IsPlace}
-use Rattle.hs_gate.proofs.Numbers.{length-spelled, length-spelled_append}
+use Rattle.hs_gate.specs.Spelled.{HasNoGroup}
+use Rattle.hs_gate.proofs.Numbers.{length-spelled, length-spelled_append, length-group}
 use Rattle.hs_gate.proofs.Pieces.{drop-piece, length-piece}
 use Rattle.hs_gate.proofs.Steps.{first_group, found_same}
+use Rattle.hs_gate.proofs.Spelling.{found_group}
 use Rattle.hs_gate.proofs.Carried.{Reaches, walk}
 use Rattle.hs_gate.proofs.Fronts.{open_long, end_within}
 
@@ -74,6 +76,28 @@ found_part bytes head at end count f part le within head_is few looked =
     let long : length all ≡ end - at + 1 = length-take-le (end - at + 1) (drop at bytes) (omega (arith, length-drop at bytes, within, le)) in
     let size : length head ≡ count = ap length head_is ∙ length-take-le count (drop at bytes) (omega (arith, length-drop at bytes, within, le, few)) in
     looked all long (head_is ∙ sym (take-take count (end - at + 1) (drop at bytes) few) ∙ ap (λ (n : ℕ). take n all) (sym size)) ∙ part.found
+
+-- Where what was looked at is no whole group, no bytes that begin so have one. They may be fewer than were looked for, so
+-- zeros are put behind them.
+pub looked_in_vain : (bytes head : List ℕ) (at behind count : ℕ) (f : Found) → behind < 2 ^ 64 → length head ≡ count → head ≡ piece at count bytes → count ≤ behind + 1
+    → ((all : List ℕ) → length all ≡ behind + 1 → head ≡ take (length head) all → f ≡ found_in all) → ((size : ℕ) → f ≡ Group size → ⊥) → HasNoGroup (piece at (behind + 1) bytes)
+looked_in_vain bytes head at behind count f small size is few looked none payload next rest spelled_is =
+    let seen = piece at (behind + 1) bytes in
+    let short : length seen ≤ behind + 1 = omega (arith, length-take (behind + 1) (drop at bytes)) in
+    let there : count ≤ length seen = omega (arith, size, ap length is, length-take count (drop at bytes), length-take (behind + 1) (drop at bytes), few) in
+    let nothing : ℕ = 0 in
+    let zeros : List ℕ = replicate (behind + 1 - length seen) nothing in
+    let all = seen ++ zeros in
+    let long : length all ≡ behind + 1 = omega (arith, length-append seen zeros, length-replicate (behind + 1 - length seen) nothing, short) in
+    let front : head ≡ take count all =
+    is
+    ∙ sym (take-take count (behind + 1) (drop at bytes) few)
+    ∙ ap (λ (l : List ℕ). take count l) (sym (take_at seen zeros (length seen) refl))
+    ∙ take-take count (length seen) all there in
+    let spelled_all : all ≡ group payload ++ next ∷ (rest ++ zeros) = ap (λ (l : List ℕ). l ++ zeros) spelled_is ∙ append_assoc (group payload) (next ∷ rest) zeros in
+    let fits : length payload < 2 ^ 64 = omega (arith, ap length spelled_is, length-append (group payload) (next ∷ rest), length-group payload, short, small) in
+    let found : found_in all ≡ Group (length payload) = ap found_in spelled_all ∙ found_group payload (next ∷ (rest ++ zeros)) fits (omega arith) in
+    none (length payload) (looked all long (front ∙ ap (λ (n : ℕ). take n all) (sym size)) ∙ found)
 
 -- the part that is answered
 pub takes_part : (bytes payload : List ℕ) (at end size next : ℕ) → (part : PartAt bytes at end) → size ≡ length part.payload → payload ≡ piece (at + 9) size bytes → next ≡ at + 9 + size

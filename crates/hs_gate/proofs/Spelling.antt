@@ -52,7 +52,7 @@ spell (p ∷ ps) at end bytes small is there =
     ∙ sym (append_assoc (group p) (spelled ps) (drop end bytes))
 
 -- a spelled group with one more byte behind it is read as one
-found_group : (payload more : List ℕ) → length payload < 2 ^ 64 → 0 < length more → found_in (group payload ++ more) ≡ Group (length payload)
+pub found_group : (payload more : List ℕ) → length payload < 2 ^ 64 → 0 < length more → found_in (group payload ++ more) ≡ Group (length payload)
 found_group payload more small some =
     let behind = eight_bytes (length payload) ++ payload ++ more in
     let size : number_of behind ≡ length payload = ap number_of (append_assoc (eight_bytes (length payload)) payload more) ∙ number_of_eight (length payload) (payload ++ more) small in

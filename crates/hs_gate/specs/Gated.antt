@@ -1,5 +1,5 @@
 -- What a gated file is read as, and what its calls make of it.
-use Rattle.std.specs.Prelude.{◌≡◌, ℕ, ◌+◌, ◌*◌, ◌≤◌, true, false, if◌then◌else◌, List, [], ◌∷◌, ◌++◌, length, take, Option, Some, None, Result, Ok, Err}
+use Rattle.std.specs.Prelude.{◌≡◌, ◌⊎◌, ℕ, ◌+◌, ◌*◌, ◌≤◌, true, false, if◌then◌else◌, List, [], ◌∷◌, ◌++◌, length, take, Option, Some, None, Result, Ok, Err}
 use Rattle.hs_host.specs.declared.file_kind.FileKind.{FileKind}
 use Rattle.hs_host.specs.Files.{Five, of, overwrite}
 use Rattle.hs_gate.specs.declared.gate_fault.GateFault.{GateFault}
@@ -7,7 +7,7 @@ use Rattle.hs_gate.specs.declared.gate_fault.GateFault.TheVariants.{Disk, Broken
 use Rattle.hs_gate.specs.declared.gated.Front.{Front}
 use Rattle.hs_gate.specs.declared.gated.Gated.{Gated}
 use Rattle.hs_gate.specs.declared.part.Part.{Part}
-use Rattle.hs_gate.specs.Groups.{is_open, epoch_of, group, eight_bytes, end_of, ahead, groups_at, groups_of}
+use Rattle.hs_gate.specs.Groups.{is_open, is_born, epoch_of, group, eight_bytes, end_of, ahead, groups_at, groups_of}
 
 -- an open file of these bytes with these groups
 abbrev pub gated_of : FileKind → List ℕ → List (List ℕ) → Gated
@@ -80,3 +80,11 @@ started bytes epoch = take 1 bytes ++ (1 ∷ eight_bytes epoch ++ 0 ∷ [])
 
 abbrev pub created : List ℕ
 created = 1 ∷ 1 ∷ eight_bytes 1 ++ 0 ∷ []
+
+-- what a creation that failed may leave of an unborn file: one that still isn't born, or a whole one
+abbrev pub IsUnbornOrCreated : List ℕ → Type 0
+IsUnbornOrCreated bytes = (is_born bytes ≡ false) ⊎ (bytes ≡ created)
+
+-- what a start that failed may leave of a file: its bytes, or one that isn't open, or a whole one
+abbrev pub IsSameOrClosedOrStarted : List ℕ → ℕ → List ℕ → Type 0
+IsSameOrClosedOrStarted old epoch new = (new ≡ old) ⊎ (is_open new ≡ false) ⊎ (new ≡ started old epoch)

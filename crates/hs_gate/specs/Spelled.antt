@@ -9,9 +9,13 @@ pub record Holds (bytes : List ℕ) (payloads : List (List ℕ)) : Type 0 where
   pub closed : gate ≢ 1
   pub is : drop 10 bytes ≡ spelled payloads ++ gate ∷ rest
 
--- behind an open gate these bytes are no whole group with one more byte behind it
+-- these bytes don't begin with a whole group and one more byte behind it
+abbrev pub HasNoGroup : List ℕ → Type 0
+HasNoGroup bytes = (payload : List ℕ) (next : ℕ) (rest : List ℕ) → bytes ≡ group payload ++ next ∷ rest → ⊥
+
+-- nor do these behind an open gate
 abbrev pub IsBroken : List ℕ → Type 0
-IsBroken behind = (payload : List ℕ) (next : ℕ) (rest : List ℕ) → 1 ∷ behind ≡ group payload ++ next ∷ rest → ⊥
+IsBroken behind = HasNoGroup (1 ∷ behind)
 
 -- from place 10 on these groups stand, and behind them an open gate without a whole group
 pub record Breaks (bytes : List ℕ) (payloads : List (List ℕ)) : Type 0 where

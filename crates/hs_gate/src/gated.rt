@@ -1,11 +1,12 @@
 // A gated file that was read.
-ghost use Rattle.std.specs.Prelude.{◌≡◌, ◌↔◌, ℕ, ◌+◌, ◌≤◌, length, take, None, Err, IfOk, IfSome, OnOk, OnErr, IsErrOf};
-ghost use Rattle.hs_host.specs.Files.{of, with_, IsOpen, IsHonest};
+ghost use Rattle.std.specs.Prelude.{◌≡◌, ◌↔◌, ℕ, ◌+◌, ◌-◌, ◌≤◌, length, take, None, Err, IfOk, IfSome, OnOk, OnErr, IsErrOf};
+ghost use Rattle.hs_host.specs.Files.{of, with_, piece, IsOpen, IsHonest};
 ghost use Rattle.hs_host.specs.Moments.{Since, IsStill, OneFile};
 ghost use Rattle.hs_gate.specs.Changes.{IsOnly};
 ghost use Rattle.hs_gate.specs.Crash.{IsCalm, IsAsBefore, IsBeforeOrAfter};
 ghost use Rattle.hs_gate.specs.Faults.{HasGateCause, IsNeverBroken};
 ghost use Rattle.hs_gate.specs.Groups.{groups_of, and_group};
+ghost use Rattle.hs_gate.specs.Spelled.{HasNoGroup};
 
 use crate::found::{Found, look};
 use crate::gate_fault::GateFault;
@@ -45,9 +46,9 @@ impl Gated {
 
     /// Reads the group whose gate is at a place, which is `end` where none is left. The first place is 10.
     ///
-    /// It answers none exactly where `at` is `end`. `Broken(at)` comes only where the bytes that were read are
-    /// no whole group, and never over an honest host. `Disk` comes only where a call of the host failed, and
-    /// `NoMemory` is free.
+    /// It answers none exactly where `at` is `end`. `Broken(at)` comes only where the bytes from there to `end`,
+    /// as they were read, are no whole group with one more byte behind it, and never over an honest host. `Disk`
+    /// comes only where a call of the host failed, and `NoMemory` is free.
     #[tactic(auto, using(crate::proofs::Moments::still_on))]
     pub fn part<H: Host>(
         &self,
@@ -64,6 +65,7 @@ impl Gated {
         ensures next { IfOk result (λ part. IfSome part (λ p. (p.next ≡ at + (9 + length p.payload)) × (p.next ≤ self.now.end))) }
         ensures whole { H.tells → IsHonest (H.standing host.old) → IsNeverBroken result }
         ensures broken { (number : ℕ) → IsErrOf result (GateFault.Broken number) → number ≡ at }
+        ensures no_group { H.tells → (number : ℕ) → IsErrOf result (GateFault.Broken number) → HasNoGroup (piece at (self.now.end - at + 1) (of (H.files host.new) self.now.file)) }
         ensures files { H.tells → IsHonest (H.standing host.old) → H.files host.new ≡ H.files host.old }
         ensures moments { H.tells → IsHonest (H.standing host.old) → Since (IsStill (H.history host.old).now) (H.history host.old) (H.history host.new) }
         ensures cause { HasGateCause (H.disk_faults host.old) (H.disk_faults host.new) result }

@@ -20,7 +20,7 @@ pub fn read_front<H: Host>(
     requires opened { IsOpen (H.standing host.old) }
     requires fits { count ≤ length buffer.old }
     requires within { H.tells → IsHonest (H.standing host.old) → at + count ≤ length (of (H.files host.old) file) }
-    ensures bytes { H.tells → IsHonest (H.standing host.old) → OnOk result (take count buffer.new ≡ piece at count (of (H.files host.new) file)) }
+    ensures bytes { H.tells → OnOk result (take count buffer.new ≡ piece at count (of (H.files host.new) file)) }
     ensures files { H.tells → IsHonest (H.standing host.old) → H.files host.new ≡ H.files host.old }
     ensures moments { H.tells → IsHonest (H.standing host.old) → Since (IsStill (H.history host.old).now) (H.history host.old) (H.history host.new) }
     ensures cause { HasGateCause (H.disk_faults host.old) (H.disk_faults host.new) result }

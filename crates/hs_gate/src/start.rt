@@ -1,10 +1,10 @@
 // How a gated file begins.
-ghost use Rattle.std.specs.Prelude.{◌≡◌, ◌<◌, ◌≤◌, [], ◌∷◌, ◌++◌, length, take, slice_index, IfOk, OnOk};
+ghost use Rattle.std.specs.Prelude.{◌≡◌, ◌≢◌, ◌<◌, ◌≤◌, [], ◌∷◌, ◌++◌, length, take, slice_index, false, IfOk, OnOk, OnErr};
 ghost use Rattle.hs_host.specs.Files.{of, with_, IsOpen, IsHonest};
 ghost use Rattle.hs_host.specs.Moments.{Since, IsStill, OneFile};
 ghost use Rattle.hs_gate.specs.Crash.{IsCalm, IsAny};
 ghost use Rattle.hs_gate.specs.Faults.{HasGateCause, IsNeverBroken};
-ghost use Rattle.hs_gate.specs.Changes.{IsOnly};
+ghost use Rattle.hs_gate.specs.Changes.{IsOnly, IsWrittenOrNot};
 ghost use Rattle.hs_gate.specs.Groups.{is_born, eight_bytes};
 
 use crate::gate_fault::GateFault;
@@ -14,7 +14,7 @@ use crate::writing::{replace_from, write_synced};
 use hs_host::{FileKind, Host};
 
 impl Gated {
-    ghost use Rattle.hs_gate.specs.Gated.{IsAtRest, empty, started, created};
+    ghost use Rattle.hs_gate.specs.Gated.{IsAtRest, IsUnbornOrCreated, IsSameOrClosedOrStarted, empty, started, created};
 
     /// Whether a file is born: it isn't empty, and its first byte is 1.
     ///
@@ -43,13 +43,14 @@ impl Gated {
     /// and synced first, and then born and synced. It is never shorter than this on the way.
     ///
     /// Nothing is promised of what a crash leaves of the file while it is made anew. After an `Ok` all of it
-    /// stands on the disk.
+    /// stands on the disk. After an `Err` a file that wasn't born still isn't, or it is whole.
     ///
     /// `Disk` comes only where a call of the host failed, and `NoMemory` is handed on from the host.
     #[tactic(auto, using(crate::proofs::Moments::any_on, crate::proofs::Moments::any_writing))]
     pub fn create<H: Host>(host: &mut H, file: FileKind) -> Result<Gated, GateFault>
         requires { IsOpen (H.standing host.old) }
         ensures ok { H.tells → IsHonest (H.standing host.old) → OnOk result (H.files host.new ≡ with_ (H.files host.old) file created) }
+        ensures err { H.tells → IsHonest (H.standing host.old) → is_born (of (H.files host.old) file) ≡ false → OnErr result (IsUnbornOrCreated (of (H.files host.new) file)) }
         ensures others { H.tells → IsHonest (H.standing host.old) → IsOnly (H.files host.old) file (H.files host.new) }
         ensures empty { IfOk result (λ gated. gated ≡ empty file 1) }
         ensures at_rest { H.tells → IsHonest (H.standing host.old) → IfOk result (IsAtRest (H.files host.new)) }
@@ -73,7 +74,7 @@ impl Gated {
     /// written in place of all groups and synced, and then the header gate is opened and synced.
     ///
     /// Nothing is promised of what a crash leaves of the file while it is started anew. After an `Ok` all of it
-    /// stands on the disk.
+    /// stands on the disk. After an `Err` the file is as it was, or isn't open, or is started as a whole.
     ///
     /// `Disk` comes only where a call of the host failed, and `NoMemory` is handed on from the host.
     #[tactic(auto, using(crate::proofs::Moments::any_on))]
@@ -81,6 +82,7 @@ impl Gated {
         requires opened { IsOpen (H.standing host.old) }
         requires long { H.tells → IsHonest (H.standing host.old) → 2 ≤ length (of (H.files host.old) file) }
         ensures ok { H.tells → IsHonest (H.standing host.old) → OnOk result (H.files host.new ≡ with_ (H.files host.old) file (started (of (H.files host.old) file) epoch)) }
+        ensures err { H.tells → IsHonest (H.standing host.old) → OnErr result (IsSameOrClosedOrStarted (of (H.files host.old) file) epoch (of (H.files host.new) file)) }
         ensures others { H.tells → IsHonest (H.standing host.old) → IsOnly (H.files host.old) file (H.files host.new) }
         ensures empty { IfOk result (λ gated. gated ≡ empty file epoch) }
         ensures at_rest { H.tells → IsHonest (H.standing host.old) → IfOk result (IsAtRest (H.files host.new)) }
@@ -149,6 +151,8 @@ fn close_header<H: Host>(host: &mut H, file: FileKind) -> Result<(), GateFault>
     requires long { H.tells → IsHonest (H.standing host.old) → 2 ≤ length (of (H.files host.old) file) }
     ensures long { H.tells → IsHonest (H.standing host.old) → OnOk result (2 ≤ length (of (H.files host.new) file)) }
     ensures first { H.tells → IsHonest (H.standing host.old) → OnOk result (take 1 (of (H.files host.new) file) ≡ take 1 (of (H.files host.old) file)) }
+    ensures closed { H.tells → IsHonest (H.standing host.old) → OnOk result (slice_index (of (H.files host.new) file) 1 ≢ 1) }
+    ensures err { H.tells → IsHonest (H.standing host.old) → OnErr result (IsWrittenOrNot (of (H.files host.old) file) 1 (0 ∷ []) (of (H.files host.new) file)) }
     ensures others { H.tells → IsHonest (H.standing host.old) → IsOnly (H.files host.old) file (H.files host.new) }
     ensures moments { H.tells → IsHonest (H.standing host.old) → Since (OneFile (H.history host.old).now file IsAny) (H.history host.old) (H.history host.new) }
     ensures cause { HasGateCause (H.disk_faults host.old) (H.disk_faults host.new) result }

@@ -240,3 +240,47 @@ fn each_call_of_an_append_may_fail(rt: HostRuntime) -> Result<(), Fail> {
     }
     Ok(())
 }
+
+// An old file, and what is left of it where the first, the second .. of the five calls of a creation fails.
+const CREATED: [(&[u8], [&[u8]; 5]); 2] = [
+    (
+        b"",
+        [
+            b"",
+            b"\0\x01\0\0\0\0\0\0\0\x01\0",
+            b"\0\x01\0\0\0\0\0\0\0\x01\0",
+            b"\0\x01\0\0\0\0\0\0\0\x01\0",
+            b"\x01\x01\0\0\0\0\0\0\0\x01\0",
+        ],
+    ),
+    (
+        b"abcdefghijklm",
+        [
+            b"abcdefghijklm",
+            b"\0\x01\0\0\0\0\0\0\0\x01\0lm",
+            b"\0\x01\0\0\0\0\0\0\0\x01\0",
+            b"\0\x01\0\0\0\0\0\0\0\x01\0",
+            b"\x01\x01\0\0\0\0\0\0\0\x01\0",
+        ],
+    ),
+];
+
+// All is written with a birth byte 0, and that byte is made 1 by a write of its own.
+#[test]
+fn each_call_of_a_creation_may_fail(rt: HostRuntime) -> Result<(), Fail> {
+    let alloc = rt.alloc();
+    for (old, left) in CREATED {
+        for (call, expected) in (1..).zip(left) {
+            let failing = CallList::from_vec([call].to_vec(alloc)?);
+            let mut host = opened(alloc, old.to_vec(alloc)?, failing)?;
+            assert_eq!(rt;
+                Gated::create(&mut host, FileKind::Log),
+                Err(GateFault::Disk),
+                "call {call}"
+            );
+            assert_eq!(rt; host.image(FileKind::Log), expected, "call {call}");
+            assert_eq!(rt; host.calls(), call + 1);
+        }
+    }
+    Ok(())
+}

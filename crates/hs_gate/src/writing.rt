@@ -1,11 +1,11 @@
 // Writes that are brought to the disk.
-ghost use Rattle.std.specs.Prelude.{◌≡◌, ℕ, ◌+◌, ◌^◌, ◌<◌, ◌≤◌, List, [], ◌∷◌, ◌++◌, length, take, IfOk, OnOk};
+ghost use Rattle.std.specs.Prelude.{◌≡◌, ℕ, ◌+◌, ◌^◌, ◌<◌, ◌≤◌, List, [], ◌∷◌, ◌++◌, length, take, IfOk, OnOk, OnErr};
 ghost use Rattle.hs_host.specs.Files.{of, with_, overwrite, IsOpen, IsHonest};
 ghost use Rattle.hs_host.specs.Fronts.{KeepsFront};
 ghost use Rattle.hs_host.specs.Moments.{Since, OneFile, IsSynced, disk_of};
 ghost use Rattle.hs_gate.specs.Crash.{IsAny, IsWriting, BeginsWith};
 ghost use Rattle.hs_gate.specs.Faults.{HasGateCause, IsNeverBroken};
-ghost use Rattle.hs_gate.specs.Changes.{IsOnly};
+ghost use Rattle.hs_gate.specs.Changes.{IsOnly, IsWrittenOrNot, IsReplacedOrNot};
 ghost use Rattle.hs_gate.specs.Groups.{eight_bytes};
 
 use crate::gate_fault::GateFault;
@@ -25,6 +25,7 @@ pub fn write_synced<H: Host>(
     requires opened { IsOpen (H.standing host.old) }
     requires within { H.tells → IsHonest (H.standing host.old) → at ≤ length (of (H.files host.old) file) }
     ensures ok { H.tells → IsHonest (H.standing host.old) → OnOk result (H.files host.new ≡ with_ (H.files host.old) file (overwrite (of (H.files host.old) file) at bytes.now)) }
+    ensures err { H.tells → IsHonest (H.standing host.old) → OnErr result (IsWrittenOrNot (of (H.files host.old) file) at bytes.now (of (H.files host.new) file)) }
     ensures others { H.tells → IsHonest (H.standing host.old) → IsOnly (H.files host.old) file (H.files host.new) }
     ensures moments { H.tells → IsHonest (H.standing host.old) → Since (IsWriting (H.history host.old).now file at bytes.now (of (H.files host.old) file)) (H.history host.old) (H.history host.new) }
     ensures settled { H.tells → IsHonest (H.standing host.old) → OnOk result (IsSynced (H.history host.old).now file (of (H.files host.new) file) (H.history host.new).now) }
@@ -53,6 +54,7 @@ pub fn replace_from<H: Host>(
     requires room { at + length bytes.now < 2 ^ 64 }
     requires within { H.tells → IsHonest (H.standing host.old) → at ≤ length (of (H.files host.old) file) }
     ensures ok { H.tells → IsHonest (H.standing host.old) → OnOk result (H.files host.new ≡ with_ (H.files host.old) file (take at (of (H.files host.old) file) ++ bytes.now)) }
+    ensures err { H.tells → IsHonest (H.standing host.old) → OnErr result (IsReplacedOrNot (of (H.files host.old) file) at bytes.now (of (H.files host.new) file)) }
     ensures others { H.tells → IsHonest (H.standing host.old) → IsOnly (H.files host.old) file (H.files host.new) }
     ensures moments { H.tells → IsHonest (H.standing host.old) → Since (OneFile (H.history host.old).now file IsAny) (H.history host.old) (H.history host.new) }
     ensures settled { H.tells → IsHonest (H.standing host.old) → OnOk result (IsSynced (H.history host.old).now file (of (H.files host.new) file) (H.history host.new).now) }

@@ -1,9 +1,9 @@
-use Rattle.std.proofs.Common.{◌≡◌, ◌<◌, ◌+◌, ◌-◌, ℕ, List, length, take, drop, refl, sym, ◌∙◌, ap, arith}
+use Rattle.std.proofs.Common.{◌≡◌, ◌<◌, ◌+◌, ◌-◌, ℕ, List, length, take, drop, refl, sym, ◌∙◌, ap, arith, length-take}
 use Rattle.std.proofs.lemmas.List.{take_rest}
 use Rattle.hs_host.specs.Files.{Five, of, piece, IsHonest}
 use Rattle.hs_gate.specs.declared.found.Found.TheVariants.{Closed, Group, Broken}
 use Rattle.hs_gate.proofs.Fronts.{end_within}
-use Rattle.hs_gate.proofs.Parts.{part_at, none_at_end, found_part, takes_part, payload_front}
+use Rattle.hs_gate.proofs.Parts.{part_at, none_at_end, found_part, looked_in_vain, takes_part, payload_front}
 use Rattle.hs_gate.proofs.gated.Gated.part.Goals as goal
 
 pub returns-then-behind-eq0-clause-payload : goal.returns-then-behind-eq0-clause-payload
@@ -21,7 +21,7 @@ returns-in-Closed-clause-whole g c = λ told honest.
     let part = part_at (g.H.Host.files c.args.host.now) c.args.self.now c.args.at (c.requires.front told honest) (c.requires.place told honest) lt in
     let within = end_within (g.H.Host.files c.args.host.now) c.args.self.now (c.requires.front told honest) in
     let head : take (c.min.result + 1) c.read_front.new.buffer ≡ piece c.args.at (c.min.result + 1) bytes =
-    c.in_ok-read_front.ensures.bytes told honest ∙ ap (λ (f : Five (List ℕ)). piece c.args.at (c.min.result + 1) (of f c.args.self.now.file)) (c.read_front.ensures.files told honest) in
+    c.in_ok-read_front.ensures.bytes told ∙ ap (λ (f : Five (List ℕ)). piece c.args.at (c.min.result + 1) (of f c.args.self.now.file)) (c.read_front.ensures.files told honest) in
     let found : Closed ≡ Group (length part.payload) = found_part bytes (take (c.min.result + 1) c.read_front.new.buffer) c.args.at c.args.self.now.end (c.min.result + 1) Closed part (omega arith) within head (omega (arith, c.min.ensures)) c.in-Closed.ensures.found in
     cc
 
@@ -32,7 +32,7 @@ returns-in-Broken-clause-whole g c = λ told honest.
     let part = part_at (g.H.Host.files c.args.host.now) c.args.self.now c.args.at (c.requires.front told honest) (c.requires.place told honest) lt in
     let within = end_within (g.H.Host.files c.args.host.now) c.args.self.now (c.requires.front told honest) in
     let head : take (c.min.result + 1) c.read_front.new.buffer ≡ piece c.args.at (c.min.result + 1) bytes =
-    c.in_ok-read_front.ensures.bytes told honest ∙ ap (λ (f : Five (List ℕ)). piece c.args.at (c.min.result + 1) (of f c.args.self.now.file)) (c.read_front.ensures.files told honest) in
+    c.in_ok-read_front.ensures.bytes told ∙ ap (λ (f : Five (List ℕ)). piece c.args.at (c.min.result + 1) (of f c.args.self.now.file)) (c.read_front.ensures.files told honest) in
     let found : Broken ≡ Group (length part.payload) = found_part bytes (take (c.min.result + 1) c.read_front.new.buffer) c.args.at c.args.self.now.end (c.min.result + 1) Broken part (omega arith) within head (omega (arith, c.min.ensures)) c.in-Broken.ensures.found in
     cc
 
@@ -54,7 +54,7 @@ read_payload-requires-clause-first g c = λ told later.
     let same : length file ≡ length (of (g.H.Host.files c.args.host.now) c.args.self.now.file) =
     ap (λ (f : Five (List ℕ)). length (of f c.args.self.now.file)) (c.read_front.ensures.files told honest) in
     let fits = c.in-Group.ensures.fits in
-    let front = payload_front head file c.args.at (c.min.result + 1) (c.in_ok-read_front.ensures.bytes told honest) (omega (arith, fits, c.min.ensures)) (omega (arith, within, same, c.min.ensures)) in
+    let front = payload_front head file c.args.at (c.min.result + 1) (c.in_ok-read_front.ensures.bytes told) (omega (arith, fits, c.min.ensures)) (omega (arith, within, same, c.min.ensures)) in
     let all : take (length head - 9) (drop 9 head) ≡ drop 9 head = take_rest head 9 in
     all ∙ front ∙ ap (λ (l : List ℕ). piece (c.args.at + 9) (length l) file) (sym all)
 
@@ -65,9 +65,23 @@ returns-clause-payload g c = λ told honest.
     let part = part_at (g.H.Host.files c.args.host.now) c.args.self.now c.args.at (c.requires.front told honest) (c.requires.place told honest) lt in
     let within = end_within (g.H.Host.files c.args.host.now) c.args.self.now (c.requires.front told honest) in
     let head : take (c.min.result + 1) c.read_front.new.buffer ≡ piece c.args.at (c.min.result + 1) bytes =
-    c.in_ok-read_front.ensures.bytes told honest ∙ ap (λ (f : Five (List ℕ)). piece c.args.at (c.min.result + 1) (of f c.args.self.now.file)) (c.read_front.ensures.files told honest) in
+    c.in_ok-read_front.ensures.bytes told ∙ ap (λ (f : Five (List ℕ)). piece c.args.at (c.min.result + 1) (of f c.args.self.now.file)) (c.read_front.ensures.files told honest) in
     let later : IsHonest (g.H.Host.standing c.read_front.new.host) = rw c.read_front.ensures.standing honest in
     let found : Group c.in-Group.size ≡ Group (length part.payload) = found_part bytes (take (c.min.result + 1) c.read_front.new.buffer) c.args.at c.args.self.now.end (c.min.result + 1) (Group c.in-Group.size) part (omega arith) within head (omega (arith, c.min.ensures)) c.in-Group.ensures.found in
     let size : c.in-Group.size ≡ length part.payload = cc in
     let payload = c.in_ok-payload.ensures.payload told later ∙ ap (λ (f : Five (List ℕ)). piece (c.args.at + 9) c.in-Group.size (of f c.args.self.now.file)) (c.read_front.ensures.files told honest) in
     takes_part bytes c.in_ok-payload.payload c.args.at c.args.self.now.end c.in-Group.size (c.args.at + 9 + c.in-Group.size) part size payload refl
+
+pub returns-in-Closed-clause-no_group : goal.returns-in-Closed-clause-no_group
+returns-in-Closed-clause-no_group g c = λ told number is.
+    let bytes = of (g.H.Host.files c.read_front.new.host) c.args.self.now.file in
+    let head = take (c.min.result + 1) c.read_front.new.buffer in
+    let size : length head ≡ c.min.result + 1 = omega (arith, length-take (c.min.result + 1) c.read_front.new.buffer, c.min.ensures) in
+    looked_in_vain bytes head c.args.at (c.args.self.now.end - c.args.at) (c.min.result + 1) Closed (omega arith) size (c.in_ok-read_front.ensures.bytes told) (omega (arith, c.min.ensures)) c.in-Closed.ensures.found (λ size e. cc)
+
+pub returns-in-Broken-clause-no_group : goal.returns-in-Broken-clause-no_group
+returns-in-Broken-clause-no_group g c = λ told number is.
+    let bytes = of (g.H.Host.files c.read_front.new.host) c.args.self.now.file in
+    let head = take (c.min.result + 1) c.read_front.new.buffer in
+    let size : length head ≡ c.min.result + 1 = omega (arith, length-take (c.min.result + 1) c.read_front.new.buffer, c.min.ensures) in
+    looked_in_vain bytes head c.args.at (c.args.self.now.end - c.args.at) (c.min.result + 1) Broken (omega arith) size (c.in_ok-read_front.ensures.bytes told) (omega (arith, c.min.ensures)) c.in-Broken.ensures.found (λ size e. cc)

@@ -2,6 +2,7 @@ use Rattle.std.proofs.Common.{arith}
 use Rattle.hs_host.specs.Files.{IsHonest}
 use Rattle.hs_gate.specs.Gated.{empty}
 use Rattle.hs_gate.proofs.Fronts.{started_is, started_fresh, end_within}
+use Rattle.hs_gate.proofs.Failed.{on_err_too, start_failed}
 use Rattle.hs_gate.proofs.Moments.{any_on, any_writing, synced_calm}
 use Rattle.hs_gate.proofs.gated.Gated.start.Goals as goal
 
@@ -33,3 +34,10 @@ returns-clause-moments g c = λ told honest.
     let closed : IsHonest (g.H.Host.standing c.close_header.new.host) = rw c.close_header.ensures.standing honest in
     let replaced : IsHonest (g.H.Host.standing c.replace_from.new.host) = rw c.replace_from.ensures.standing closed in
     any_on (any_on (c.close_header.ensures.moments told honest) (c.replace_from.ensures.moments told closed)) (any_writing (c.write_synced.ensures.moments told replaced))
+
+pub returns-in_err-write_synced-clause-err : goal.returns-in_err-write_synced-clause-err
+returns-in_err-write_synced-clause-err g c = λ told honest.
+    let closed : IsHonest (g.H.Host.standing c.close_header.new.host) = rw c.close_header.ensures.standing honest in
+    let replaced : IsHonest (g.H.Host.standing c.replace_from.new.host) = rw c.replace_from.ensures.standing closed in
+    on_err_too _ (start_failed _ _ _ _ c.args.file c.header_of.result c.args.epoch (c.in_ok-close_header.ensures.long told honest) c.header_of.ensures (c.close_header.ensures.others told honest)
+    (c.in_ok-close_header.ensures.first told honest) (c.in_ok-close_header.ensures.closed told honest) (c.in_ok-replace_from.ensures.ok told closed) (c.in_err-write_synced.ensures.err told replaced))
