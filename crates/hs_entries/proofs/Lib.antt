@@ -1,3 +1,4 @@
+pub mod Asking
 pub mod ItemSteps
 pub mod Leading
 pub mod LeftSteps

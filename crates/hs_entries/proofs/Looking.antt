@@ -5,9 +5,9 @@ use Rattle.std.proofs.lemmas.Bool.Decides.{nat_tests}
 use Rattle.hs_entries.specs.declared.window.Window.{Window}
 use Rattle.hs_entries.specs.declared.window.Look.{Look}
 use Rattle.hs_entries.specs.declared.window.Look.TheVariants.{Entry, Limit, Nothing}
-use Rattle.hs_entries.specs.Items.{items_from, no_items, whole_items}
+use Rattle.hs_entries.specs.Items.{items_from, no_items, whole_items, has_item}
 use Rattle.hs_entries.specs.Window.{skipped_of, begun_of, left_of, ahead_of, room_of, IsSound, IsAtEnd}
-use Rattle.hs_entries.specs.Reader.{has_item, finds}
+use Rattle.hs_entries.specs.Reader.{finds}
 use Rattle.hs_entries.proofs.ItemSteps.{items_from-end, items_from-within, ahead_of-parts, length-passed}
 use Rattle.hs_entries.proofs.Spans.{span-append, span_one}
 

@@ -64,3 +64,9 @@ pub read_span : (xs front back old new : List ℕ) (i j n : ℕ) → i ≡ j →
 read_span xs front back old new i j n same inside within is =
     ap (λ (k : ℕ). slice_range (take j xs ++ (front ++ back)) k (j + n) ++ new) same
     ∙ ap (λ (l : List ℕ). l ++ new) (written_span xs front back j n inside within) ∙ sym is
+
+-- the same, as it now stands there
+pub read_there : (xs front back : List ℕ) (i j n : ℕ) → i ≡ j → j ≤ length xs → n ≤ length front
+    → slice_range (take j xs ++ (front ++ back)) i (j + n) ≡ take n front
+read_there xs front back i j n same inside within =
+    ap (λ (k : ℕ). slice_range (take j xs ++ (front ++ back)) k (j + n)) same ∙ written_span xs front back j n inside within

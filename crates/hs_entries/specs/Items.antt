@@ -1,5 +1,5 @@
 -- The items of the input, as a function of its bytes: in whatever pieces they come, the items are the same.
-use Rattle.std.specs.Prelude.{ℕ, ◌+◌, List, [], ◌∷◌, ◌++◌, if◌then◌else◌}
+use Rattle.std.specs.Prelude.{ℕ, ◌+◌, Bool, true, false, List, [], ◌∷◌, ◌++◌, if◌then◌else◌}
 use Rattle.hs_entries.specs.declared.item.Item.{Item}
 use Rattle.hs_entries.specs.declared.place.Place.{Place}
 use Rattle.hs_entries.specs.declared.place.Place.TheVariants.{Between}
@@ -31,3 +31,7 @@ items n bytes = items_from cut_items n Between [] bytes
 -- those of them that are whole, up to their `;`
 abbrev pub whole_items : ℕ → List ℕ → List Item
 whole_items n bytes = items_from no_items n Between [] bytes
+
+abbrev pub has_item : List Item → Bool
+has_item [] = false
+has_item (i ∷ is) = true

@@ -1,3 +1,4 @@
+pub mod Asking
 pub mod Entry
 pub mod Items
 pub mod Left

@@ -14,7 +14,7 @@ use Rattle.hs_entries.specs.declared.reader.Skim.TheVariants.{Entry, Skipped, Li
 use Rattle.hs_entries.specs.declared.place.Place.{Place}
 use Rattle.hs_entries.specs.declared.place.Place.TheVariants.{Between}
 use Rattle.hs_entries.specs.Place.{is_entry}
-use Rattle.hs_entries.specs.Items.{whole_items}
+use Rattle.hs_entries.specs.Items.{whole_items, has_item}
 use Rattle.hs_entries.specs.Left.{Left, items_of, whole_of, long, Takes, Continues, IsBeyond}
 use Rattle.hs_entries.specs.Window.{ahead_of, room_of}
 
@@ -34,17 +34,20 @@ next_number r = r.count + 1
 abbrev pub kept : EntryReader → Option InputFault
 kept r = r.kept
 
-abbrev pub has_item : List Item → Bool
-has_item [] = false
-has_item (i ∷ is) = true
+-- A whole item is among those of these bytes that may be used, or a byte beyond those is there.
+abbrev pub is_answered : ℕ → ℕ → List ℕ → Bool
+is_answered number room bytes = nat_lt room (length bytes) || has_item (whole_items number (take room bytes))
 
--- A whole item is among the bytes at hand that may be used, or a byte beyond those is at hand.
 abbrev pub is_at_hand : EntryReader → Bool
-is_at_hand r = nat_lt (room r) (length (ahead r)) || has_item (whole_items (next_number r) (take (room r) (ahead r)))
+is_at_hand r = is_answered (next_number r) (room r) (ahead r)
 
 -- the next answer needs no more input
 abbrev pub is_ready : EntryReader → Bool
 is_ready r = is_some (kept r) || is_at_hand r
+
+-- it needs no more input than these bytes behind those at hand
+abbrev pub is_ready_with : EntryReader → List ℕ → Bool
+is_ready_with r more = is_some (kept r) || is_answered (next_number r) (room r) (ahead r ++ more)
 
 -- what is left for a reader whose source has this left
 abbrev pub left : EntryReader → List ℕ → Left

@@ -1,9 +1,10 @@
 // Reads the items of the input.
-ghost use Rattle.std.specs.Prelude.{◌≡◌, true, false, ℕ, ◌+◌, ◌-◌, ◌<◌, ◌≤◌, ◌^◌, List, [], ◌++◌, length, None, Some, IfOk, IfErr, IfSome, IfNone, OnOk, IsErrOf, MatchOption};
+ghost use Rattle.std.specs.Prelude.{◌≡◌, ◌⊎◌, true, false, ℕ, ◌+◌, ◌-◌, ◌<◌, ◌≤◌, ◌^◌, List, [], ◌++◌, length, None, Some, IfOk, IfErr, IfSome, IfNone, OnOk, OnErr, IsErrOf, MatchOption};
 ghost use Rattle.std.proofs.Props.{props};
 ghost use Rattle.hs_host.specs.Host.{Rose};
 ghost use Rattle.hs_entries.specs.Place.{is_entry};
 ghost use Rattle.hs_entries.specs.Left.{TakesFirst, TakesWhole, RunsOut, IsBeyond, IsNumbered, KeepsRoom, Takes, Continues};
+ghost use Rattle.hs_entries.specs.Asking.{Asks, Asked, NeedsMore};
 ghost use Rattle.hs_entries.specs.Window.{IsSound, IsAtEnd, IsFresh, left_of, begun_of, room_of};
 
 use crate::entry::{cut_entry, read_entry};
@@ -26,7 +27,7 @@ pub struct EntryReader {
 }
 
 impl EntryReader {
-    ghost use Rattle.hs_entries.specs.Reader.{ahead, room, next_number, kept, is_ready as ready, is_at_hand, finds, left, left_within, left_items, left_whole, Shrinks, Grows, Skims, cut_at};
+    ghost use Rattle.hs_entries.specs.Reader.{ahead, room, next_number, kept, is_ready as ready, is_ready_with as ready_with, is_at_hand, finds, left, left_within, left_items, left_whole, Shrinks, Grows, Skims, cut_at};
 
     /// A reader of a source of which at most `limit` bytes are used. Takes no memory: the first `next` takes
     /// that for the bytes at hand.
@@ -70,7 +71,8 @@ impl EntryReader {
         self.window.look()
     }
 
-    /// The next item of the input. It asks for input only where it needs a byte and has none left. A fault is
+    /// The next item of the input. It asks for input only where it needs a byte and has none left: before each
+    /// read no answer is ready in what was at hand and what the reads of this call gave by then. A fault is
     /// kept: each later call answers it again, without a call of the source.
     ///
     /// `Fault` comes only where a read of the source failed in this call. `TooLong` comes exactly where the
@@ -97,6 +99,7 @@ impl EntryReader {
 
         // The source.
         ensures ready { ready self.old ≡ true → source.new ≡ source.old }
+        ensures needed { Asks S.reads (λ more. ready_with self.old more ≡ false) source.old source.new }
         ensures later { S.input_faults source.old ≤ S.input_faults source.new }
         ensures only { S.only_input source.old source.new }
     {
@@ -119,6 +122,7 @@ impl EntryReader {
         ensures past { IsErrOf result InputFault.TooLong → room self.new < length (ahead self.new) }
         ensures fault { IsErrOf result InputFault.Fault → Rose (S.input_faults source.old) (S.input_faults source.new) }
         ensures ready { is_at_hand self.old ≡ true → source.new ≡ source.old }
+        ensures needed { Asks S.reads (λ more. NeedsMore (left self.old more)) source.old source.new }
         ensures kept { self.new.kept ≡ self.old.kept }
         ensures later { S.input_faults source.old ≤ S.input_faults source.new }
         ensures only { S.only_input source.old source.new }
@@ -161,6 +165,7 @@ impl EntryReader {
         ensures past { IsErrOf result InputFault.TooLong → room self.new < length (ahead self.new) }
         ensures fault { IsErrOf result InputFault.Fault → Rose (S.input_faults source.old) (S.input_faults source.new) }
         ensures kept { self.new.kept ≡ self.old.kept }
+        ensures asked { Asked S.reads (left self.old) (left self.new) result source.old source.new }
         ensures later { S.input_faults source.old ≤ S.input_faults source.new }
         ensures only { S.only_input source.old source.new }
     {
@@ -190,6 +195,9 @@ impl EntryReader {
         ensures kept { self.new.kept ≡ self.old.kept }
         ensures fault { IsErrOf result InputFault.Fault → Rose (S.input_faults source.old) (S.input_faults source.new) }
         ensures too_long { IsErrOf result InputFault.TooLong → ⊥ }
+        ensures one { OnOk result (S.reads source.old source.new (left_of self.new.window)) }
+        ensures on { OnOk result ((rest : List ℕ) → Continues (left self.old (left_of self.new.window ++ rest)) (left self.new rest)) }
+        ensures err { OnErr result ((source.new ≡ source.old) ⊎ S.reads source.old source.new []) }
         ensures later { S.input_faults source.old ≤ S.input_faults source.new }
         ensures only { S.only_input source.old source.new }
     {
@@ -224,6 +232,7 @@ impl EntryReader {
         ensures past { IsErrOf result InputFault.TooLong → room self.new < length (ahead self.new) }
         ensures fault { IsErrOf result InputFault.Fault → Rose (S.input_faults source.old) (S.input_faults source.new) }
         ensures kept { self.new.kept ≡ self.old.kept }
+        ensures asked { Asked S.reads (left self.old) (left self.new) result source.old source.new }
         ensures later { S.input_faults source.old ≤ S.input_faults source.new }
         ensures only { S.only_input source.old source.new }
     {
@@ -254,6 +263,7 @@ impl EntryReader {
         ensures past { IsErrOf result InputFault.TooLong → room self.new < length (ahead self.new) }
         ensures fault { IsErrOf result InputFault.Fault → Rose (S.input_faults source.old) (S.input_faults source.new) }
         ensures kept { self.new.kept ≡ self.old.kept }
+        ensures asked { Asked S.reads (left_within self.old from) (left self.new) result source.old source.new }
         ensures later { S.input_faults source.old ≤ S.input_faults source.new }
         ensures only { S.only_input source.old source.new }
     {

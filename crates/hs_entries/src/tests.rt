@@ -274,21 +274,21 @@ fn reads_items(rt: HostRuntime) -> Result<(), Fail> {
 #[test]
 fn asks_only_for_what_it_needs(rt: HostRuntime) -> Result<(), Fail> {
     let alloc = rt.alloc();
-    let input = Vec::from_slice(alloc, b"a:1;b:2;c:3;")?;
-    let failing = CallList::from_vec(vec![in alloc; 6]?);
+    let input = Vec::from_slice(alloc, b"aa:1;b:2;c:3;")?;
+    let failing = CallList::from_vec(vec![in alloc; 7]?);
     let mut source = host(alloc, input, failing, 1)?;
     let mut reader = EntryReader::new(alloc, MOST_BYTES as u64);
 
     // An item ends at its `;`: no byte behind it is asked for.
     assert!(rt; !reader.is_ready());
     assert!(rt; matches!(reader.next(&mut source), Ok(Item::Entry { number: 1, .. })));
-    assert_eq!(rt; source.calls(), 4);
+    assert_eq!(rt; source.calls(), 5);
 
     // A read that fails in the middle of an entry is kept.
     for _ in 0..3 {
         assert!(rt; matches!(reader.next(&mut source), Err(InputFault::Fault)));
         assert!(rt; reader.is_ready());
-        assert_eq!(rt; source.calls(), 7);
+        assert_eq!(rt; source.calls(), 8);
     }
     Ok(())
 }

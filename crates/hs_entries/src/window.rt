@@ -1,5 +1,5 @@
 // The bytes at hand.
-ghost use Rattle.std.specs.Prelude.{◌≡◌, ◌↔◌, ◌+◌, ◌-◌, ◌<◌, ◌≤◌, false, [], ◌∷◌, ◌++◌, length, take, drop, slice_index, Some, IfOk, OnOk, OnErr, IsErrOf, IsTrue};
+ghost use Rattle.std.specs.Prelude.{◌≡◌, ◌↔◌, ◌⊎◌, ◌+◌, ◌-◌, ◌<◌, ◌≤◌, false, [], ◌∷◌, ◌++◌, length, take, drop, slice_index, Some, IfOk, OnOk, OnErr, IsErrOf, IsTrue};
 ghost use Rattle.hs_host.specs.Host.{Rose};
 ghost use Rattle.hs_entries.specs.Place.{leads, ends, next_place};
 
@@ -188,8 +188,8 @@ impl Window {
         self.place = Place::Between;
     }
 
-    /// Drops what is skipped, and reads more bytes behind what is begun. Answers whether any came, and none
-    /// comes only at the end of the input.
+    /// Drops what is skipped, and reads more bytes behind what is begun, by one read at most. Answers whether any
+    /// came, and none comes only at the end of the input.
     pub fn refill<S: Source>(&mut self, source: &mut S) -> Result<bool, InputFault>
         requires sound { IsSound self.old }
         requires kept { length (begun_of self.old) < MOST_BYTES }
@@ -206,6 +206,8 @@ impl Window {
         ensures end { S.tells → IfOk result (λ more. more ≡ false → S.unread source.new ≡ []) }
         ensures fault { IsErrOf result InputFault.Fault → Rose (S.input_faults source.old) (S.input_faults source.new) }
         ensures too_long { IsErrOf result InputFault.TooLong → ⊥ }
+        ensures one { OnOk result (S.reads source.old source.new (left_of self.new)) }
+        ensures err { OnErr result ((source.new ≡ source.old) ⊎ S.reads source.old source.new []) }
         ensures later { S.input_faults source.old ≤ S.input_faults source.new }
         ensures only { S.only_input source.old source.new }
     {

@@ -1,8 +1,9 @@
 -- What a host in memory is made of, and what of it reading keeps.
-use Rattle.std.specs.Prelude.{ℕ, List}
+use Rattle.std.specs.Prelude.{◌≡◌, ℕ, ◌+◌, ◌-◌, ◌^◌, min, List, ◌++◌}
 use Rattle.hs_host.specs.Files.{Five, Standing}
 use Rattle.hs_host.specs.Moments.{History}
 use Rattle.hs_memhost.specs.Devices.{files_on, history_on}
+use Rattle.hs_memhost.specs.Input.{left_of}
 use Rattle.hs_memhost.specs.Mounting.{standing_of}
 use Rattle.hs_memhost.specs.declared.memory.MemHost.{MemHost}
 
@@ -41,3 +42,8 @@ pub record Kept : Type 0 where
 
 abbrev pub kept_of : MemHost → Kept
 kept_of h = record { history = history_in h; output_faults = h.output_faults; files = files_in h; standing = standing_in h; disk_faults = h.disk_faults; failing = h.failing }
+
+-- one call took these bytes from the input
+pub record IsOneRead (a b : MemHost) (bytes : List ℕ) : Type 0 where
+  pub taken : left_of a.input ≡ bytes ++ left_of b.input
+  pub counted : calls_of b ≡ min (calls_of a + 1) (2 ^ 64 - 1)

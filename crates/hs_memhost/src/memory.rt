@@ -1,5 +1,5 @@
 // A host in memory whose calls fail where a list says so.
-ghost use Rattle.std.specs.Prelude.{◌≡◌, ◌↔◌, ◌⊎◌, ℕ, List, ◌<◌, ◌≤◌, ◌+◌, ◌-◌, ◌^◌, min, [], length, take, IsTrue, IfOk, OnOk, OnErr, IsErrOf, Contains, None, false, true, refl};
+ghost use Rattle.std.specs.Prelude.{◌≡◌, ◌↔◌, ◌⊎◌, ℕ, List, ◌<◌, ◌≤◌, ◌+◌, ◌-◌, ◌^◌, min, [], length, take, IsTrue, IfOk, OnOk, OnErr, IsErrOf, MatchResult, Contains, None, false, true, refl};
 ghost use Rattle.std.proofs.Common.{◌∙◌, ap};
 ghost use Rattle.hs_memhost.specs.Input.{left_of};
 ghost use Rattle.std.specs.Io.{ReadsAtMost, WritesAtMost};
@@ -142,7 +142,7 @@ impl MemHost {
 }
 
 impl Source for MemHost {
-    ghost use Rattle.hs_memhost.specs.Memory.{calls_of, failing_of, kept_of};
+    ghost use Rattle.hs_memhost.specs.Memory.{calls_of, failing_of, kept_of, IsOneRead};
 
     ghost tells = { Unit {0} };
 
@@ -156,12 +156,15 @@ impl Source for MemHost {
 
     ghost read_on = { λ a b c ab bc. bc ∙ ab };
 
+    ghost reads = { IsOneRead };
+
     fn read_input(&mut self, buf: &mut [u8]) -> Result<usize, HostFault>
         ensures bound { ReadsAtMost result buf.new }
         ensures bytes { TakesInput (left_of self.old.input) (left_of self.new.input) result buf.new }
         ensures cause { HasCause self.old.input_faults self.new.input_faults result }
         ensures no_fault { OnOk result (self.new.input_faults ≡ self.old.input_faults) }
         ensures only { kept_of self.new ≡ kept_of self.old }
+        ensures one { MatchResult result (λ n. IsOneRead self.old self.new (take n buf.new)) (λ _. IsOneRead self.old self.new []) }
         ensures listed { IsErrOf result HostFault.Fault ↔ Contains (failing_of self.old) (calls_of self.old) }
         ensures calls { calls_of self.new ≡ min (calls_of self.old + 1) (2 ^ 64 - 1) }
     {

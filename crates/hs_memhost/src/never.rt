@@ -1,5 +1,5 @@
 // A host in memory whose devices never fail.
-ghost use Rattle.std.specs.Prelude.{◌≡◌, [], None, false, true, refl};
+ghost use Rattle.std.specs.Prelude.{◌≡◌, ◌++◌, [], None, false, true, refl};
 ghost use Rattle.std.proofs.Common.{◌∙◌, ap};
 ghost use Rattle.hs_memhost.specs.Input.{left_of};
 ghost use Rattle.hs_host.specs.Files.{of};
@@ -69,6 +69,8 @@ impl Source for NeverFails {
     ghost nothing_read = { λ h. refl };
 
     ghost read_on = { λ a b c ab bc. bc ∙ ab };
+
+    ghost reads = { λ a b bytes. left_of a.input ≡ bytes ++ left_of b.input };
 
     fn read_input(&mut self, buf: &mut [u8]) -> Result<usize, HostFault> {
         Ok(self.input.read(buf))

@@ -75,6 +75,8 @@ impl<'a, F: Files<File = File>, R: Read + Drop, W: Write + Drop> Source for File
 
     ghost only_input = { λ a b. (b.output_faults ≡ a.output_faults) × (standing_of (option_map string_bytes b.name) (is_some b.files) ≡ standing_of (option_map string_bytes a.name) (is_some a.files)) × (b.disk_faults ≡ a.disk_faults) };
 
+    ghost reads = { λ a b bytes. Unit {0} };
+
     ghost nothing_read = { λ h. (refl, refl, refl) };
 
     ghost read_on = { λ a b c ab bc. (bc.0 ∙ ab.0, bc.1 ∙ ab.1, bc.2 ∙ ab.2) };

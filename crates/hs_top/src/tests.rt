@@ -223,7 +223,7 @@ impl Noting {
 }
 
 impl Source for Noting {
-    ghost use Rattle.std.specs.Prelude.{◌≡◌, refl};
+    ghost use Rattle.std.specs.Prelude.{◌≡◌, ◌++◌, refl};
     ghost use Rattle.std.proofs.Common.{◌∙◌};
     ghost use Rattle.hs_memhost.specs.Memory.{kept_of};
 
@@ -234,6 +234,8 @@ impl Source for Noting {
     ghost input_faults = { λ h. ⟦<MemHost as Source>⟧.input_faults h.inner };
 
     ghost only_input = { λ a b. kept_of b.inner ≡ kept_of a.inner };
+
+    ghost reads = { λ a b bytes. ⟦<MemHost as Source>⟧.unread a.inner ≡ bytes ++ ⟦<MemHost as Source>⟧.unread b.inner };
 
     ghost nothing_read = { λ h. refl };
 

@@ -1,6 +1,5 @@
 use Rattle.std.proofs.Common.{◌∙◌, ◌+◌, ℕ, List, ◌||◌, nat_lt, length, take, ap}
-use Rattle.hs_entries.specs.Items.{whole_items}
-use Rattle.hs_entries.specs.Reader.{has_item}
+use Rattle.hs_entries.specs.Items.{whole_items, has_item}
 use Rattle.hs_entries.specs.Window.{ahead_of, room_of}
 use Rattle.hs_entries.proofs.Looking.{look_tells}
 use Rattle.hs_entries.proofs.reader.EntryReader.look.Goals as goal

@@ -1,5 +1,6 @@
 use Rattle.std.proofs.Common.{◌≡◌, ◌+◌, ◌-◌, ◌≤◌, true, length}
 use Rattle.hs_entries.specs.Left.{Continues}
+use Rattle.hs_entries.specs.Asking.{Gathers}
 use Rattle.hs_entries.specs.Reader.{left, next_number, room, ahead, is_at_hand}
 use Rattle.hs_entries.proofs.reader.EntryReader.read_item.Given as goal
 
@@ -11,6 +12,7 @@ invariant-items g l =
       shrinks : room l.self ≤ room l.fn.self;
       kept : l.self.kept ≡ l.fn.self.kept;
       ready : is_at_hand l.fn.self ≡ true → (l.source ≡ l.fn.source) × (is_at_hand l.self ≡ true);
+      gathers : Gathers g.S.Source.reads (left l.fn.self) (left l.self) l.fn.source l.source;
       later : g.S.Source.input_faults l.fn.source ≤ g.S.Source.input_faults l.source;
       only : g.S.Source.only_input l.fn.source l.source;
     }

@@ -2,6 +2,8 @@ use Rattle.std.proofs.Common.{◌≡◌, ◌∙◌, ◌+◌, ◌≤◌, ◌++◌
 use Rattle.hs_entries.specs.declared.item.TheConstants.{MOST_BYTES}
 use Rattle.hs_entries.specs.Window.{ahead_of, left_of, room_of, begun_of}
 use Rattle.hs_entries.specs.Left.{Continues}
+use Rattle.hs_entries.specs.Asking.{NeedsMore}
+use Rattle.hs_entries.proofs.Asking.{looked_needs, asks_once, asks_at_most_once, gathers_once, gathers_then_asked, asked_err}
 use Rattle.hs_entries.specs.Reader.{left, left_within, ahead, room}
 use Rattle.hs_entries.proofs.LeftSteps.{long_start, long_cut, none_on, some_on, continues_beyond, fresh_ahead, fresh_room}
 use Rattle.hs_entries.proofs.reader.EntryReader.skip_long.Goals as goal
@@ -54,3 +56,47 @@ returns-else-branch-clause-some g c = λ told.
     let count : after.count + 1 ≡ r.count + 1 = let same = read.count in omega arith in
     rw (c.cut_item.ensures.item, c.place-place.ensures, count, end ∙ sym nothing)
     (long_cut (r.count + 1) (c.cut_item.new.self.count + 1) r.window c.cut_item.new.self.window before r.sound c.requires.looked short nothing ahead_is room_is)
+
+pub returns-in_err-refill-clause-asked : goal.returns-in_err-refill-clause-asked
+returns-in_err-refill-clause-asked g c =
+    let r = c.args.self.now in
+    let needs = looked_needs (r.count + 1) r.window r.sound c.requires.looked in
+    asked_err g.S.Source.reads (left r) (left c.refill.new.self) c.from_residual.result c.args.source.now c.refill.new.source _ c.from_residual.ensures.1
+    (asks_at_most_once g.S.Source.reads (λ given. NeedsMore (left r given)) c.args.source.now c.refill.new.source needs c.in_err-refill.ensures.err)
+
+pub returns-else-branch-clause-asked : goal.returns-else-branch-clause-asked
+returns-else-branch-clause-asked g c =
+    let r = c.args.self.now in
+    let needs = looked_needs (r.count + 1) r.window r.sound c.requires.looked in
+    asks_once g.S.Source.reads (λ given. NeedsMore (left r given)) c.args.source.now c.refill.new.source (left_of c.refill.new.self.window) needs
+    c.in_ok-refill.ensures.one
+
+-- the same, whatever the source gives behind the bytes of the one read
+goes_on_with : (g : _) (c : goal.After-skip_from g) (rest : List ℕ)
+    → Continues (left c.args.self.now (left_of c.refill.new.self.window ++ rest)) (left_within c.refill.new.self c.place-place.result rest)
+goes_on_with g c rest =
+    let r = c.args.self.now in
+    let used = c.use_to.new.self in
+    let after = c.refill.new.self in
+    let read = c.in_ok-refill.ensures in
+    let fresh = c.use_to.ensures.fresh in
+    let bytes = left_of after.window in
+    let input : ahead after ++ rest ≡ left_of r.window ++ (bytes ++ rest) =
+    ap (λ (l : List ℕ). l ++ rest) (fresh_ahead after.window (read.fresh fresh)) ∙ ap (λ (l : List ℕ). l ++ (bytes ++ rest)) (sym c.requires.looked) in
+    let all = length-append (ahead after) rest in
+    let grown = read.more c.if-branch.true in
+    let same = read.fresh_room fresh in
+    rw c.place-place.ensures (long_start (r.count + 1) (after.count + 1) r.window (bytes ++ rest) (ahead after ++ rest) (room after)
+    r.sound c.requires.full input (omega arith) (let count = read.count in omega arith)
+    (same ∙ fresh_room used fresh ∙ omega (arith, c.use_to.ensures.room)))
+
+pub returns-then-branch-clause-asked : goal.returns-then-branch-clause-asked
+returns-then-branch-clause-asked g c =
+    let r = c.args.self.now in
+    let after = c.refill.new.self in
+    let needs = looked_needs (r.count + 1) r.window r.sound c.requires.looked in
+    gathers_then_asked g.S.Source.reads (left r) (left_within after c.place-place.result) (left c.skip_from.new.self) c.skip_from.result c.args.source.now
+    c.refill.new.source c.skip_from.new.source
+    (gathers_once g.S.Source.reads (left r) (left_within after c.place-place.result) c.args.source.now c.refill.new.source (left_of after.window) needs
+    c.in_ok-refill.ensures.one (λ rest. goes_on_with g c rest))
+    c.skip_from.ensures.asked

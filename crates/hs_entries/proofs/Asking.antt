@@ -1,0 +1,141 @@
+-- How the reads of a call follow one another.
+use Rattle.std.proofs.Common.{◌≡◌, ◌⊎◌, inl, inr, ℕ, ◌+◌, ◌≤◌, ◌||◌, nat_lt, Bool, true, false, List, [], ◌∷◌, ◌++◌, length, take, Option, None, Some, Result, Ok, Err, IsErrAnd, refl, sym, ap, subst, append_assoc, append-nil, ◌∙◌, arith}
+use Rattle.std.proofs.lemmas.List.{take_all}
+use Rattle.std.proofs.lemmas.Bool.Decides.{nat_tests}
+use Rattle.hs_entries.specs.declared.input_fault.InputFault.{InputFault}
+use Rattle.hs_entries.specs.declared.item.Item.{Item}
+use Rattle.hs_entries.specs.declared.place.Place.{Place}
+use Rattle.hs_entries.specs.declared.place.Place.TheVariants.{Between}
+use Rattle.hs_entries.specs.declared.window.Window.{Window}
+use Rattle.hs_entries.specs.Window.{left_of, ahead_of, room_of, IsSound}
+use Rattle.hs_entries.specs.Left.{Left, whole_of, Continues}
+use Rattle.hs_entries.specs.Items.{items_from, no_items, whole_items, has_item}
+use Rattle.hs_entries.specs.Asking.{given_by, AreNeeded, Asks, NeedsMore, Gathers, Asked}
+use Rattle.hs_entries.proofs.LeftSteps.{left_at, continues_trans}
+use Rattle.hs_entries.proofs.Looking.{none_at_hand, none_at_hand_within}
+
+pub or_false : (a b : Bool) → a ≡ false → b ≡ false → (a || b) ≡ false
+or_false a b first second = rw (first, second) refl
+
+or_first : (a b : Bool) → (a || b) ≡ false → a ≡ false
+or_first true b h = h
+or_first false b h = refl
+
+or_second : (a b : Bool) → (a || b) ≡ false → b ≡ false
+or_second true b h = cc
+or_second false b h = h
+
+-- what is left needs more bytes where what it comes to needs them
+pub needs_on : (a b : Left) → Continues a b → NeedsMore b → NeedsMore a
+needs_on a b on needs =
+    let first : nat_lt b.room (length b.input) ≡ false = or_first _ _ needs in
+    let within : length b.input ≤ b.room = grind (arith, nat_tests, first) in
+    let here : length a.input ≤ a.room = omega (arith, on.room, within) in
+    or_false (nat_lt a.room (length a.input)) (has_item (whole_of a)) (grind (arith, nat_tests, here)) (ap has_item on.whole ∙ or_second _ _ needs)
+
+-- nothing at hand needs more
+pub empty_needs : (n : ℕ) (p : Place) (begun : List ℕ) (room : ℕ) (input : List ℕ) → input ≡ [] → NeedsMore (left_at n p begun room (input ++ []))
+empty_needs n p begun room input none =
+    let within : 0 ≤ room = omega arith in
+    let P : List ℕ → Type 0 = λ l. NeedsMore (left_at n p begun room (l ++ [])) in
+    subst P (sym none) (or_false (nat_lt room 0) (has_item (items_from no_items n p begun (take room []))) (grind (arith, nat_tests, within))
+    (ap (λ (l : List ℕ). has_item (items_from no_items n p begun l)) (take_all room [] (omega arith))))
+
+-- a window that has looked at all its bytes needs more
+pub looked_needs : (n : ℕ) (w : Window) → IsSound w → left_of w ≡ [] → NeedsMore (left_at n Between [] (room_of w) (ahead_of w ++ []))
+looked_needs n w sound looked =
+    let P : List ℕ → Type 0 = λ l. NeedsMore (left_at n Between [] (room_of w) l) in
+    subst P (sym (append-nil (ahead_of w))) (or_false (nat_lt (room_of w) (length (ahead_of w))) (has_item (whole_items n (take (room_of w) (ahead_of w))))
+    (none_at_hand_within w sound n looked) (ap has_item (none_at_hand w sound n looked)))
+
+module _ {T : Type 0} (reads : T → T → List ℕ → Type 0) where
+  pub asks_none : (Needs : List ℕ → Type 0) (a c : T) → c ≡ a → Asks reads Needs a c
+  asks_none Needs a c same = record { made = []; needed = same }
+
+  pub asks_once : (Needs : List ℕ → Type 0) (a c : T) (bytes : List ℕ) → Needs [] → reads a c bytes → Asks reads Needs a c
+  asks_once Needs a c bytes needs read = record { made = (a, bytes) ∷ []; needed = (refl, (needs, read)) }
+
+  pub asks_at_most_once : (Needs : List ℕ → Type 0) (a c : T) → Needs [] → (c ≡ a) ⊎ reads a c [] → Asks reads Needs a c
+  asks_at_most_once Needs a c needs (inl same) = asks_none Needs a c same
+  asks_at_most_once Needs a c needs (inr read) = asks_once Needs a c [] needs read
+
+  needed_weaker : (M N : List ℕ → Type 0) (made : List (T × List ℕ)) (a c : T) → ((given : List ℕ) → M given → N given)
+      → AreNeeded reads M made a c → AreNeeded reads N made a c
+  needed_weaker M N [] a c f same = same
+  needed_weaker M N (read ∷ before) a c f x = (needed_weaker M N before a read.0 f x.0, (f (given_by before) x.1.0, x.1.1))
+
+  pub asks_weaker : (M N : List ℕ → Type 0) (a c : T) → ((given : List ℕ) → M given → N given) → Asks reads M a c → Asks reads N a c
+  asks_weaker M N a c f asks = record { made = asks.made; needed = needed_weaker M N asks.made a c f asks.needed }
+
+  given_then : (then first : List (T × List ℕ)) → given_by (then ++ first) ≡ given_by first ++ given_by then
+  given_then [] first = sym (append-nil (given_by first))
+  given_then (read ∷ before) first =
+      ap (λ (l : List ℕ). l ++ read.1) (given_then before first) ∙ append_assoc (given_by first) (given_by before) read.1
+
+  -- reads behind others
+  needed_then : (M N : List ℕ → Type 0) (first then : List (T × List ℕ)) (a b c : T) → ((given : List ℕ) → M given → N (given_by first ++ given))
+      → AreNeeded reads N first a b → AreNeeded reads M then b c → AreNeeded reads N (then ++ first) a c
+  needed_then M N first [] a b c f x same = let P : T → Type 0 = λ t. AreNeeded reads N first a t in subst P (sym same) x
+  needed_then M N first (read ∷ before) a b c f x y =
+      (needed_then M N first before a b read.0 f x y.0, (subst N (sym (given_then before first)) (f (given_by before) y.1.0), y.1.1))
+
+  pub gathers_none : (l : List ℕ → Left) (a : T) → Gathers reads l l a a
+  gathers_none l a = record { made = []; needed = refl; on = λ rest. record { items = refl; whole = refl; room = refl } }
+
+  pub gathers_once : (old new : List ℕ → Left) (a c : T) (bytes : List ℕ) → NeedsMore (old []) → reads a c bytes
+      → ((rest : List ℕ) → Continues (old (bytes ++ rest)) (new rest)) → Gathers reads old new a c
+  gathers_once old new a c bytes needs read on = record { made = (a, bytes) ∷ []; needed = (refl, (needs, read)); on = on }
+
+  -- the reads alone
+  pub gathers_asks : (old new : List ℕ → Left) (a c : T) → Gathers reads old new a c → Asks reads (λ given. NeedsMore (old given)) a c
+  gathers_asks old new a c g = record { made = g.made; needed = g.needed }
+
+  -- the same are left without a read
+  pub gathers_on : (old mid new : List ℕ → Left) (a c : T) → Gathers reads old mid a c → ((rest : List ℕ) → Continues (mid rest) (new rest))
+      → Gathers reads old new a c
+  gathers_on old mid new a c g on =
+      record { made = g.made; needed = g.needed; on = λ rest. continues_trans _ _ _ (g.on rest) (on rest) }
+
+  pub gathers_then_asks : (old mid : List ℕ → Left) (a b c : T) → Gathers reads old mid a b → Asks reads (λ given. NeedsMore (mid given)) b c
+      → Asks reads (λ given. NeedsMore (old given)) a c
+  gathers_then_asks old mid a b c g asks =
+      record {
+        made = asks.made ++ g.made;
+        needed = needed_then (λ given. NeedsMore (mid given)) (λ given. NeedsMore (old given)) g.made asks.made a b c
+            (λ given. needs_on (old (given_by g.made ++ given)) (mid given) (g.on given)) g.needed asks.needed;
+      }
+
+  pub gathers_then : (old mid new : List ℕ → Left) (a b c : T) → Gathers reads old mid a b → Gathers reads mid new b c → Gathers reads old new a c
+  gathers_then old mid new a b c g h =
+      record {
+        made = h.made ++ g.made;
+        needed = needed_then (λ given. NeedsMore (mid given)) (λ given. NeedsMore (old given)) g.made h.made a b c
+            (λ given. needs_on (old (given_by g.made ++ given)) (mid given) (g.on given)) g.needed h.needed;
+        on = λ rest.
+            let all : given_by (h.made ++ g.made) ++ rest ≡ given_by g.made ++ (given_by h.made ++ rest) =
+            ap (λ (l : List ℕ). l ++ rest) (given_then h.made g.made) ∙ append_assoc (given_by g.made) (given_by h.made) rest in
+            let P : List ℕ → Type 0 = λ l. Continues (old l) (new rest) in
+            subst P (sym all) (continues_trans _ _ _ (g.on (given_by h.made ++ rest)) (h.on rest));
+      }
+
+  pub gathers_then_asked : (old mid new : List ℕ → Left) (result : Result (Option Item) InputFault) (a b c : T) → Gathers reads old mid a b
+      → Asked reads mid new result b c → Asked reads old new result a c
+  gathers_then_asked old mid new (Ok None) a b c g h = gathers_then old mid new a b c g h
+  gathers_then_asked old mid new (Ok (Some i)) a b c g h = gathers_then_asks old mid a b c g h
+  gathers_then_asked old mid new (Err e) a b c g h = gathers_then_asks old mid a b c g h
+
+  -- what a call that failed asked for
+  pub asked_err : (old new : List ℕ → Left) (result : Result (Option Item) InputFault) (a c : T) (P : InputFault → Type 0) → IsErrAnd result P
+      → Asks reads (λ given. NeedsMore (old given)) a c → Asked reads old new result a c
+  asked_err old new (Ok item) a c P h asks = absurd h
+  asked_err old new (Err e) a c P h asks = asks
+
+  pub asked_asks : (old new : List ℕ → Left) (result : Result (Option Item) InputFault) (a c : T) → Asked reads old new result a c
+      → Asks reads (λ given. NeedsMore (old given)) a c
+  asked_asks old new (Ok None) a c g = gathers_asks old new a c g
+  asked_asks old new (Ok (Some i)) a c asks = asks
+  asked_asks old new (Err e) a c asks = asks
+
+  pub asked_none : (old new : List ℕ → Left) (item : Option Item) (a c : T) → item ≡ None → Asked reads old new (Ok item) a c → Gathers reads old new a c
+  asked_none old new None a c is g = g
+  asked_none old new (Some i) a c is g = absurd cc
