@@ -241,46 +241,47 @@ fn each_call_of_an_append_may_fail(rt: HostRuntime) -> Result<(), Fail> {
     Ok(())
 }
 
-// An old file, and what is left of it where the first, the second .. of the five calls of a creation fails.
-const CREATED: [(&[u8], [&[u8]; 5]); 2] = [
-    (
-        b"",
-        [
-            b"",
-            b"\0\x01\0\0\0\0\0\0\0\x01\0",
-            b"\0\x01\0\0\0\0\0\0\0\x01\0",
-            b"\0\x01\0\0\0\0\0\0\0\x01\0",
-            b"\x01\x01\0\0\0\0\0\0\0\x01\0",
-        ],
-    ),
-    (
-        b"abcdefghijklm",
-        [
-            b"abcdefghijklm",
-            b"\0\x01\0\0\0\0\0\0\0\x01\0lm",
-            b"\0\x01\0\0\0\0\0\0\0\x01\0",
-            b"\0\x01\0\0\0\0\0\0\0\x01\0",
-            b"\x01\x01\0\0\0\0\0\0\0\x01\0",
-        ],
-    ),
-];
+// A new file before its birth byte is made 1, and behind that.
+const UNBORN: &[u8] = b"\0\x01\0\0\0\0\0\0\0\x01\0";
 
-// All is written with a birth byte 0, and that byte is made 1 by a write of its own.
+const BORN: &[u8] = b"\x01\x01\0\0\0\0\0\0\0\x01\0";
+
+// Of an old file: what is left where this call of its creation fails.
+fn create_fails(
+    rt: &impl Abort,
+    alloc: Global,
+    old: &[u8],
+    call: u64,
+    left: &[u8],
+) -> Result<(), Fail> {
+    let failing = CallList::from_vec([call].to_vec(alloc)?);
+    let mut host = opened(alloc, old.to_vec(alloc)?, failing)?;
+    assert_eq!(rt;
+        Gated::create(&mut host, FileKind::Log),
+        Err(GateFault::Disk),
+        "call {call}"
+    );
+    assert_eq!(rt; host.image(FileKind::Log), left, "call {call}");
+    Ok(())
+}
+
+// A write, a cut and a sync, and then the birth byte and its sync.
 #[test]
 fn each_call_of_a_creation_may_fail(rt: HostRuntime) -> Result<(), Fail> {
     let alloc = rt.alloc();
-    for (old, left) in CREATED {
-        for (call, expected) in (1..).zip(left) {
-            let failing = CallList::from_vec([call].to_vec(alloc)?);
-            let mut host = opened(alloc, old.to_vec(alloc)?, failing)?;
-            assert_eq!(rt;
-                Gated::create(&mut host, FileKind::Log),
-                Err(GateFault::Disk),
-                "call {call}"
-            );
-            assert_eq!(rt; host.image(FileKind::Log), expected, "call {call}");
-            assert_eq!(rt; host.calls(), call + 1);
-        }
+    let old = b"abcdefghijklm";
+    create_fails(&rt, alloc, b"", 1, b"")?;
+    create_fails(&rt, alloc, old, 1, old)?;
+    create_fails(&rt, alloc, b"", 2, UNBORN)?;
+    create_fails(&rt, alloc, old, 2, b"\0\x01\0\0\0\0\0\0\0\x01\0lm")?;
+    for call in 3..5 {
+        create_fails(&rt, alloc, b"", call, UNBORN)?;
+        create_fails(&rt, alloc, old, call, UNBORN)?;
     }
+    create_fails(&rt, alloc, b"", 5, BORN)?;
+    create_fails(&rt, alloc, old, 5, BORN)?;
+    let mut host = opened(alloc, Vec::new(alloc), CallList::new(alloc))?;
+    Gated::create(&mut host, FileKind::Log)?;
+    assert_eq!(rt; host.calls(), 6);
     Ok(())
 }
