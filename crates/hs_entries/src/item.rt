@@ -12,7 +12,9 @@ pub const MOST_NAME_BYTES: usize = 32;
 pub enum Item {
     /// An entry of a session.
     Entry {
+        /// Its number among the items, from 1.
         number: u64,
+        /// The session's name, which stands directly before the first colon.
         session: Name,
         /// The statement: what stands behind the colon, up to and with the `;`.
         text: Chars,
@@ -22,10 +24,12 @@ pub enum Item {
     /// An entry without a session's name and directly a colon, or one that isn't UTF-8, or one that the
     /// input ends before its `;`.
     Bad {
+        /// Its number among the items, from 1.
         number: u64,
     },
     /// An entry of more than `MOST_BYTES` bytes, whatever they are. They aren't kept.
     TooLong {
+        /// Its number among the items, from 1.
         number: u64,
     },
     /// The end of the input.

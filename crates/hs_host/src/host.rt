@@ -37,6 +37,9 @@ pub trait Host: Source {
 
     /// Takes bytes from the front of `bytes` as the next output, and answers how many. Taking none of a
     /// piece that isn't empty is a failure too, and raises `output_faults`.
+    ///
+    /// `Fault` comes only where writing failed, and then `output_faults` rose. `NoMemory` may come where memory is
+    /// refused. After either nothing was taken.
     fn write_output(&mut self, bytes: &[u8]) -> Result<usize, HostFault>
         ensures bound { WritesAtMost result bytes.now }
         ensures output { Self.tells → AddsOutput (written self.old) (written self.new) bytes.now result }
@@ -52,6 +55,9 @@ pub trait Host: Source {
     /// Opens the files of the database `name`, which are `name` with `.script`, `.script.new`, `.log`,
     /// `.data` and `.backup` behind it, and makes missing ones empty. From then on the host has this name,
     /// but after want of memory. It answers `Foreign` exactly where `name.properties` stands there.
+    ///
+    /// `Fault` comes only where the files can't be opened or made, and then `disk_faults` rose. `NoMemory` may come
+    /// where memory is refused.
     fn mount(&mut self, name: &str) -> Result<(), MountFault>
         requires { IsUnnamed (standing self.old) }
         ensures standing { standing self.new ≡ mounted name.now result (standing self.old) }
@@ -66,6 +72,9 @@ pub trait Host: Source {
         ensures output_faults { output_faults self.new ≡ output_faults self.old };
 
     /// The length of a file in bytes.
+    ///
+    /// `Fault` comes only where the device failed, and then `disk_faults` rose. `NoMemory` may come where memory is
+    /// refused.
     fn len(&mut self, file: FileKind) -> Result<u64, HostFault>
         requires { IsOpen (standing self.old) }
         ensures length { Self.tells → IfOk result (λ n. n ≡ length (of (files self.new) file)) }
@@ -78,7 +87,10 @@ pub trait Host: Source {
         ensures output { written self.new ≡ written self.old }
         ensures output_faults { output_faults self.new ≡ output_faults self.old };
 
-    /// Fills `buf` with the bytes of a file from the place `at` on. They must all be there.
+    /// Fills `buf` with the bytes of a file from the place `at` on, which counts bytes from 0. They must all be there.
+    ///
+    /// `Fault` comes only where the device failed, and then `disk_faults` rose. `NoMemory` may come where memory is
+    /// refused. After either nothing is said of `buf`.
     fn read(&mut self, file: FileKind, at: u64, buf: &mut [u8]) -> Result<(), HostFault>
         requires opened { IsOpen (standing self.old) }
         requires within { Self.tells → IsHonest (standing self.old) → at + length buf.old ≤ length (of (files self.old) file) }
@@ -93,7 +105,11 @@ pub trait Host: Source {
         ensures output_faults { output_faults self.new ≡ output_faults self.old };
 
     /// Puts `bytes` into a file from the place `at` on, over what stands there and beyond the file's end.
-    /// `at` is at most the file's length, and a file never gets longer than 2^62 bytes.
+    /// `at` counts bytes from 0 and is at most the file's length.
+    ///
+    /// `Fault` comes only where the device failed, and then `disk_faults` rose. `NoMemory` may come where memory is
+    /// refused. A file never gets longer than 2^62 bytes: a write beyond them answers one of the two. After either
+    /// a file of an honest host is as before.
     fn write(&mut self, file: FileKind, at: u64, bytes: &[u8]) -> Result<(), HostFault>
         requires opened { IsOpen (standing self.old) }
         requires within { Self.tells → IsHonest (standing self.old) → at ≤ length (of (files self.old) file) }
@@ -110,6 +126,9 @@ pub trait Host: Source {
         ensures output_faults { output_faults self.new ≡ output_faults self.old };
 
     /// Cuts a file to its first `len` bytes, which must be there.
+    ///
+    /// `Fault` comes only where the device failed, and then `disk_faults` rose. `NoMemory` may come where memory is
+    /// refused. After either a file of an honest host is as before.
     fn cut(&mut self, file: FileKind, len: u64) -> Result<(), HostFault>
         requires opened { IsOpen (standing self.old) }
         requires within { Self.tells → IsHonest (standing self.old) → len ≤ length (of (files self.old) file) }
@@ -125,6 +144,9 @@ pub trait Host: Source {
         ensures output_faults { output_faults self.new ≡ output_faults self.old };
 
     /// Brings a file to the disk. After an `Ok` its bytes and its length stand there.
+    ///
+    /// `Fault` comes only where the device failed, and then `disk_faults` rose. `NoMemory` may come where memory is
+    /// refused. After either nothing is said of how much stands there.
     fn sync(&mut self, file: FileKind) -> Result<(), HostFault>
         requires { IsOpen (standing self.old) }
         ensures files { Self.tells → IsHonest (standing self.old) → files self.new ≡ files self.old }

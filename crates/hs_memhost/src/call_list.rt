@@ -38,12 +38,14 @@ impl CallList {
         CallList { calls }
     }
 
+    /// Whether the call with this number is in the list. Takes no memory.
     pub fn contains(&self, call: u64) -> bool
         ensures { IsTrue result ↔ Contains self.now call }
     {
         self.calls.contains(&call)
     }
 
+    /// The same numbers once more. Its only `Err` comes where memory is refused.
     pub fn copy(&self) -> Result<CallList, AllocError>
         ensures { IfOk result (λ copied. copied ≡ self.now) }
     {

@@ -33,6 +33,7 @@ impl Images {
         }
     }
 
+    /// The same bytes once more. Its only `Err` comes where memory is refused.
     pub fn copy(&self) -> Result<Images, AllocError>
         ensures { IfOk result (λ copied. copied ≡ self.now) }
     {
