@@ -75,6 +75,7 @@ pub fn run<H: Host>(alloc: Global, words: &Words, host: &mut H) -> Status
     ensures foreign { H.tells → result ≡ Status.Damaged Damage.Foreign → IsForeign (H.standing host.old) }
     ensures own { H.tells → IsForeign (H.standing host.old) → (result ≡ Status.Usage) ⊎ ((result ≡ Status.Damaged Damage.Foreign) ⊎ ((result ≡ Status.DiskFault) ⊎ (result ≡ Status.NoMemory))) }
     ensures damaged { H.tells → IsHonest (H.standing host.old) → (number : ℕ) → result ≡ Status.Damaged (Damage.Log number) → opened_of (H.files host.old).log ≡ Err number }
+    ensures damage { H.tells → IsHonest (H.standing host.old) → (number : ℕ) → opened_of (H.files host.old).log ≡ Err number → (result ≡ Status.Usage) ⊎ ((result ≡ Status.Damaged Damage.Foreign) ⊎ ((result ≡ Status.Damaged (Damage.Log number)) ⊎ ((result ≡ Status.DiskFault) ⊎ (result ≡ Status.NoMemory)))) }
     ensures silent { is_damaged result ≡ true → (H.written host.new ≡ H.written host.old) × (H.unread host.new ≡ H.unread host.old) }
     ensures kept { H.tells → IsHonest (H.standing host.old) → is_damaged result ≡ true → H.files host.new ≡ H.files host.old }
 
