@@ -1,14 +1,39 @@
 -- As what a run can end where its log is so, and its devices are.
-use Rattle.std.proofs.Common.{◌≡◌, ◌⊎◌, ℕ, inl, inr, Result, Ok, Err, IsErrOf, refl, sym, ap, ◌∙◌}
+use Rattle.std.proofs.Common.{◌≡◌, ◌⊎◌, ℕ, inl, inr, true, false, Result, Ok, Err, IsErrOf, MatchResult, refl, sym, ap, ◌∙◌}
 use Rattle.hs_top.specs.declared.damage.Damage.{Damage}
 use Rattle.hs_top.specs.declared.damage.Damage.TheVariants.{Foreign, Log}
 use Rattle.hs_top.specs.declared.status.Status.{Status}
 use Rattle.hs_top.specs.declared.status.Status.TheVariants.{Done, Usage, InputFault, OutputFault, DiskFault, NoMemory, Damaged, InputTooLong}
 use Rattle.hs_top.specs.Opening.{Opened, IsDamageOf}
+use Rattle.hs_top.specs.Running.{has_opened}
 
 -- an error of a call is this status
 abbrev pub Ends : (T : Type 0) → Status → Status → Type 0
 Ends T status other = IsErrOf {T = T} {E = Status} (Err status) other
+
+-- a run that ended while the log was opened doesn't say that it is open
+pub not_opened_as : (T : Type 0) (status : Status)
+    → (Ends T status Done ⊎ (Ends T status Usage ⊎ (Ends T status InputFault ⊎ (Ends T status OutputFault ⊎ Ends T status InputTooLong))) → ⊥)
+    → has_opened status ≡ true → ⊥
+not_opened_as T Done only has = only (inl refl)
+not_opened_as T InputFault only has = only (inr (inr (inl refl)))
+not_opened_as T OutputFault only has = only (inr (inr (inr (inl refl))))
+not_opened_as T InputTooLong only has = only (inr (inr (inr (inr refl))))
+not_opened_as T Usage only has = only (inr (inl refl))
+not_opened_as T DiskFault only has = absurd (cc)
+not_opened_as T NoMemory only has = absurd (cc)
+not_opened_as T (Damaged damage) only has = absurd (cc)
+
+-- and so doesn't one that ended before
+pub not_mounted_as : (status : Status) → (status ≡ Damaged Foreign) ⊎ ((status ≡ DiskFault) ⊎ (status ≡ NoMemory)) → has_opened status ≡ true → ⊥
+not_mounted_as status (inl is) has = absurd (let e : false ≡ true = sym (ap has_opened is) ∙ has in cc)
+not_mounted_as status (inr (inl is)) has = absurd (let e : false ≡ true = sym (ap has_opened is) ∙ has in cc)
+not_mounted_as status (inr (inr is)) has = absurd (let e : false ≡ true = sym (ap has_opened is) ∙ has in cc)
+
+-- what holds however a run ends holds of each status
+pub safe_either : {T P : Type 0} (result : Result T Status) → P → MatchResult result (λ _. P) (λ status. has_opened status ≡ true → P)
+safe_either (Ok x) p = p
+safe_either (Err status) p = λ has. p
 
 module _ (T : Type 0) (right : Result Opened ℕ) where
   -- a damaged log, while it is opened

@@ -215,3 +215,11 @@ module _ (files : Five (List ℕ)) (h : History) (log : StatementLog) (sound : I
   held_step gathered lines texts rest m all quiet (inl told) =
       subst (λ (ts : List (List ℕ)). IsHeld least (texts_in files ++ (ts ++ rest)) before m) (sym told.0) (held_telling (gathered ++ lines) rest m (quiet told.0) told.1)
   held_step gathered lines texts rest m all quiet (inr logging) = held_logging gathered texts rest m all logging
+
+-- when the log is open, and nothing is gathered yet
+pub held_opened : (files : Five (List ℕ)) (h : History) (log : StatementLog) → IsSound log → IsLog files log → IsCalm h files log.gated → (before : List ℕ) (rest : List (List ℕ)) → h.now.out ≡ before
+    → IsHeld (length (texts_in files)) (texts_in files ++ rest) before h.now
+held_opened files h log sound is calm before rest out =
+    held_telling files h log sound is calm (length (texts_in files)) before (length (texts_in files)) (omega arith) refl [] rest h.now
+    (record { written = []; is = out ∙ sym (append-nil before); lines = record { told = tells_nothing _; ends = inl refl } })
+    (told_nothing h.now [])

@@ -3,16 +3,21 @@ use Rattle.std.proofs.Common.{◌≡◌, ◌⊎◌, ℕ, suc, Bool, true, false,
 use Rattle.hs_entries.specs.declared.item.Item.{Item}
 use Rattle.hs_entries.specs.declared.item.Item.TheVariants.{Entry, Bad, TooLong, End}
 use Rattle.hs_entries.specs.Items.{items}
-use Rattle.hs_gate.specs.Groups.{groups_of}
-use Rattle.hs_host.specs.Moments.{Moment}
+use Rattle.hs_gate.specs.Groups.{groups_of, is_born}
+use Rattle.hs_host.specs.declared.file_kind.FileKind.TheVariants.{Log}
+use Rattle.hs_host.specs.Disk.{Pending, Leaves, settled}
+use Rattle.hs_host.specs.Moments.{Moment, History, Since, disk_of}
+use Rattle.hs_host.proofs.Passing.{since_none, since_now}
 use Rattle.hs_top.specs.declared.reply.Reply.{Reply}
+use Rattle.hs_top.specs.declared.status.Status.{Status}
 use Rattle.hs_top.specs.declared.statement.Statement.{Statement}
-use Rattle.hs_top.specs.Crash.{Survives, IsSafe, IsSafeOnceTold, IsOpening, TellsBehind, opened_after}
+use Rattle.hs_top.specs.Crash.{Survives, IsSafe, IsSafeFromOpening, HasLog, IsOpening, TellsBehind, opened_after}
 use Rattle.hs_top.specs.Database.{performed}
 use Rattle.hs_top.specs.Holding.{Holds, IsHeld}
 use Rattle.hs_top.specs.CommitText.{commit_text}
 use Rattle.hs_top.specs.Machine.{State, machine, step_of, entered, logged, is_commit, turn, steps, texts, texts_of}
 use Rattle.hs_top.specs.Opening.{Opened, nothing_logged, replayed, opened_of, texts_at, texts_from, begun_with}
+use Rattle.hs_top.specs.Running.{has_opened}
 use Rattle.hs_top.specs.Sessions.{Joined, joined}
 use Rattle.hs_top.specs.Statement.{statement_of}
 use Rattle.hs_top.proofs.Fronts.{split_front}
@@ -89,15 +94,47 @@ pub safe : (old : List ℕ) (opened : Opened) (input before : List ℕ) (m : Mom
     → IsHeld (length (texts_at old)) (texts_at old ++ texts_from opened input) before m → IsSafe opened input before m
 safe old opened input before m is held log left = survives old opened input before m.out log is (held log left)
 
--- while a log is opened
-pub opening_safe : (old : List ℕ) (opened : Opened) (input before : List ℕ) (m : Moment) → opened_of old ≡ Ok opened → IsOpening old before m → IsSafeOnceTold old opened input before m
+-- a log that gives what the old one gives, while nothing is told
+same_survives : (old : List ℕ) (opened : Opened) (input before out log : List ℕ) → opened_of old ≡ Ok opened → out ≡ before → opened_of log ≡ opened_of old → Survives opened input before out log
 unfolding steps
-opening_safe old opened input before m is (out, inl unborn) = inr (unborn, out)
-opening_safe old opened input before m is (out, inr same) = inl (λ log leaves. record {
+same_survives old opened input before out log is told same = record {
   turns = 0;
-  reopens = same log leaves ∙ is;
-  told = record { written = []; is = out ∙ sym (append-nil before); told = tells_nothing _ };
-})
+  reopens = same ∙ is;
+  told = record { written = []; is = told ∙ sym (append-nil before); told = tells_nothing _ };
+}
+
+-- while a born log is opened
+opening_safe : (old : List ℕ) (opened : Opened) (input before : List ℕ) (m : Moment) → opened_of old ≡ Ok opened → is_born old ≡ true → IsOpening old before m → IsSafe opened input before m
+opening_safe old opened input before m is born (out, inl unborn) log leaves = absurd (let e : true ≡ false = sym born ∙ unborn in cc)
+opening_safe old opened input before m is born (out, inr same) log leaves = same_survives old opened input before m.out log is out (same log leaves)
+
+-- and before that
+start_safe : (old : List ℕ) (opened : Opened) (input before : List ℕ) (m : Moment) → opened_of old ≡ Ok opened → disk_of m Log ≡ settled old → m.out ≡ before → IsSafe opened input before m
+start_safe old opened input before m is quiet out log leaves =
+    same_survives old opened input before m.out log is out (ap opened_of (subst (λ (p : Pending). Leaves p log) quiet leaves))
+
+-- no moment passed
+pub not_opened : (old : List ℕ) (opened : Opened) (input before : List ℕ) (h : History) → IsSafeFromOpening old opened input before h h
+not_opened old opened input before h = record { opening = h; begins = since_none _ h; first = inl refl; each = since_none _ h }
+
+-- what is safe when it is open, and at each moment after, is so now
+pub safe_now : {opened : Opened} {input before : List ℕ} {a b : History} → IsSafe opened input before a.now → Since (IsSafe opened input before) a b → IsSafe opened input before b.now
+safe_now {opened} {input} {before} first each = elim (since_now each) [ inl is ↦ subst (IsSafe opened input before) (sym is) first | inr safe ↦ safe ]
+
+-- over a born log the present moment is safe in any case
+pub born_safe : (old : List ℕ) (opened : Opened) (input before : List ℕ) (start now : History) → opened_of old ≡ Ok opened → is_born old ≡ true → disk_of start.now Log ≡ settled old → start.now.out ≡ before
+    → IsSafeFromOpening old opened input before start now → IsSafe opened input before now.now
+born_safe old opened input before start now is born quiet out s =
+    safe_now (elim (since_now s.begins) [
+      | inl same ↦ subst (IsSafe opened input before) (sym same) (start_safe old opened input before start.now is quiet out)
+      | inr opening ↦ opening_safe old opened input before s.opening.now is born opening
+    ]) s.each
+
+-- so it is at each status that comes after the opening
+pub kept_safe : (old : List ℕ) (opened : Opened) (input before : List ℕ) (start now : History) (status : Status) → opened_of old ≡ Ok opened → disk_of start.now Log ≡ settled old → start.now.out ≡ before
+    → IsSafeFromOpening old opened input before start now → (has_opened status ≡ true → IsSafe opened input before now.now) → HasLog old status → IsSafe opened input before now.now
+kept_safe old opened input before start now status is quiet out s later (inl has) = later has
+kept_safe old opened input before start now status is quiet out s later (inr born) = born_safe old opened input before start now is born quiet out s
 
 -- what was opened has as many commits as its log has texts
 pub opened_counts : (old : List ℕ) (opened : Opened) → opened_of old ≡ Ok opened → opened.database.commits ≡ length (texts_at old)

@@ -1,12 +1,14 @@
 -- What a crash leaves of the database while a run is at work.
-use Rattle.std.specs.Prelude.{◌≡◌, ◌⊎◌, ℕ, false, List, ◌++◌, Ok}
+use Rattle.std.specs.Prelude.{◌≡◌, ◌⊎◌, ℕ, true, false, List, ◌++◌, Ok}
 use Rattle.hs_entries.specs.Items.{items}
 use Rattle.hs_gate.specs.Groups.{is_born}
 use Rattle.hs_host.specs.Disk.{Leaves}
-use Rattle.hs_host.specs.Moments.{Moment, disk_of}
+use Rattle.hs_host.specs.Moments.{Moment, History, Since, disk_of}
 use Rattle.hs_host.specs.declared.file_kind.FileKind.TheVariants.{Log}
+use Rattle.hs_top.specs.declared.status.Status.{Status}
 use Rattle.hs_top.specs.Machine.{machine, steps}
 use Rattle.hs_top.specs.Opening.{Opened, opened_of, opened_at, begun_with}
+use Rattle.hs_top.specs.Running.{has_opened}
 use Rattle.hs_top.specs.Told.{TellsAtMost}
 
 -- what a log gives that has all commits of the first so many turns of a run
@@ -30,10 +32,18 @@ pub record Survives (opened : Opened) (input before out log : List ℕ) : Type 0
 abbrev pub IsSafe : Opened → List ℕ → List ℕ → Moment → Type 0
 IsSafe opened input before m = (log : List ℕ) → Leaves (disk_of m Log) log → Survives opened input before m.out log
 
--- A log that wasn't born is made anew first. What a crash leaves of it may be anything as long as nothing is told.
-abbrev pub IsSafeOnceTold : List ℕ → Opened → List ℕ → List ℕ → Moment → Type 0
-IsSafeOnceTold old opened input before m = IsSafe opened input before m ⊎ ((is_born old ≡ false) × (m.out ≡ before))
-
 -- While a log is opened nothing is told, and whatever a crash leaves of a born one gives what it gives.
 abbrev pub IsOpening : List ℕ → List ℕ → Moment → Type 0
 IsOpening old before m = (m.out ≡ before) × ((is_born old ≡ false) ⊎ ((log : List ℕ) → Leaves (disk_of m Log) log → opened_of log ≡ opened_of old))
+
+-- A run opens its log, and each moment from then on is safe, that of the opened log too. A run that ended while it opened
+-- the log has no such moment.
+pub record IsSafeFromOpening (old : List ℕ) (opened : Opened) (input before : List ℕ) (start now : History) : Type 0 where
+  pub opening : History
+  pub begins : Since (IsOpening old before) start opening
+  pub first : (now ≡ opening) ⊎ IsSafe opened input before opening.now
+  pub each : Since (IsSafe opened input before) opening now
+
+-- a run with this status has a log that is open, or began with one that was born
+abbrev pub HasLog : List ℕ → Status → Type 0
+HasLog old status = (has_opened status ≡ true) ⊎ (is_born old ≡ true)

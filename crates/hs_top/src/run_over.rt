@@ -1,5 +1,5 @@
 // The top call.
-ghost use Rattle.std.specs.Prelude.{◌≡◌, ◌⊎◌, ◌↔◌, ℕ, ◌+◌, ◌^◌, ◌<◌, ◌≤◌, List, ◌++◌, true, false, None, Some, Ok, Err, length, OnOk, IfErr, IsErrOf};
+ghost use Rattle.std.specs.Prelude.{◌≡◌, ◌⊎◌, ◌↔◌, ℕ, ◌+◌, ◌^◌, ◌<◌, ◌≤◌, List, ◌++◌, true, false, None, Some, Ok, Err, length, OnOk, IfErr, IsErrOf, MatchResult};
 ghost use Rattle.hs_host.specs.Host.{Rose};
 ghost use Rattle.hs_gate.specs.Crash.{IsCalm};
 ghost use Rattle.hs_host.specs.Disk.{settled};
@@ -7,11 +7,11 @@ ghost use Rattle.hs_host.specs.Files.{IsUnnamed, IsOpen, IsForeign, IsHonest};
 ghost use Rattle.hs_host.specs.Moments.{Since, disk_of};
 ghost use Rattle.hs_entries.specs.Items.{items};
 ghost use Rattle.hs_top.specs.Command.{database_of};
-ghost use Rattle.hs_top.specs.Crash.{IsSafeOnceTold};
+ghost use Rattle.hs_top.specs.Crash.{IsSafe, IsSafeFromOpening, HasLog};
 ghost use Rattle.hs_top.specs.Holding.{IsHeld};
 ghost use Rattle.hs_top.specs.Machine.{WritesFront, transcript, transcript_within, machine, texts_of};
 ghost use Rattle.hs_top.specs.Opening.{Opened, opened_of, opened_by, begun_with, texts_at, texts_from, ended_with, shown, IsWholeLog, IsDamageOf};
-ghost use Rattle.hs_top.specs.Running.{IsLog, IsSound, HasRoom, OnlyLog, texts_in, is_damaged};
+ghost use Rattle.hs_top.specs.Running.{IsLog, IsSound, HasRoom, OnlyLog, texts_in, is_damaged, has_opened};
 
 use crate::command::database_of;
 use crate::damage::Damage;
@@ -39,9 +39,9 @@ const MOST_INPUT: u64 = 1 << 30;
 /// commits, and the next run begins with the database with which this one ended.
 ///
 /// A crash at any moment of the run leaves a log with which the next run begins after some number of this one's
-/// turns, and with all commits that were told of by then. Only while a log is first made, before anything is
-/// written, may it leave another.
-#[tactic(auto, using(crate::proofs::Fronts::nothing_yet, hs_host::proofs::Passing::since_none))]
+/// turns, and with all commits that were told of by then. Only while a log is first made may it leave another. At a
+/// status that says that the log was open, the moment at which the run ends is such a moment too.
+#[tactic(auto, using(crate::proofs::Fronts::nothing_yet, crate::proofs::Safe::not_opened))]
 pub fn run<H: Host>(alloc: Global, words: &Words, host: &mut H) -> Status
     requires { IsUnnamed (H.standing host.old) }
 
@@ -63,7 +63,8 @@ pub fn run<H: Host>(alloc: Global, words: &Words, host: &mut H) -> Status
     ensures others { H.tells → IsHonest (H.standing host.old) → OnlyLog (H.files host.old) (H.files host.new) }
 
     // What a crash leaves, at each moment of the run.
-    ensures crash { H.tells → IsHonest (H.standing host.old) → disk_of (H.history host.old).now FileKind.Log ≡ settled (H.files host.old).log → (opened : Opened) → opened_of (H.files host.old).log ≡ Ok opened → Since (IsSafeOnceTold (H.files host.old).log opened (H.unread host.old) (H.written host.old)) (H.history host.old) (H.history host.new) }
+    ensures crash { H.tells → IsHonest (H.standing host.old) → disk_of (H.history host.old).now FileKind.Log ≡ settled (H.files host.old).log → (opened : Opened) → opened_of (H.files host.old).log ≡ Ok opened → IsSafeFromOpening (H.files host.old).log opened (H.unread host.old) (H.written host.old) (H.history host.old) (H.history host.new) }
+    ensures safe { H.tells → IsHonest (H.standing host.old) → disk_of (H.history host.old).now FileKind.Log ≡ settled (H.files host.old).log → (opened : Opened) → opened_of (H.files host.old).log ≡ Ok opened → HasLog (H.files host.old).log result → IsSafe opened (H.unread host.old) (H.written host.old) (H.history host.new).now }
 
     // Faults of the devices.
     ensures input_fault { result ≡ Status.InputFault → Rose (H.input_faults host.old) (H.input_faults host.new) }
@@ -74,6 +75,7 @@ pub fn run<H: Host>(alloc: Global, words: &Words, host: &mut H) -> Status
     ensures foreign { H.tells → result ≡ Status.Damaged Damage.Foreign → IsForeign (H.standing host.old) }
     ensures own { H.tells → IsForeign (H.standing host.old) → (result ≡ Status.Usage) ⊎ ((result ≡ Status.Damaged Damage.Foreign) ⊎ ((result ≡ Status.DiskFault) ⊎ (result ≡ Status.NoMemory))) }
     ensures damaged { H.tells → IsHonest (H.standing host.old) → (number : ℕ) → result ≡ Status.Damaged (Damage.Log number) → opened_of (H.files host.old).log ≡ Err number }
+    ensures damage { H.tells → IsHonest (H.standing host.old) → (number : ℕ) → opened_of (H.files host.old).log ≡ Err number → (result ≡ Status.Usage) ⊎ ((result ≡ Status.Damaged Damage.Foreign) ⊎ ((result ≡ Status.Damaged (Damage.Log number)) ⊎ ((result ≡ Status.DiskFault) ⊎ (result ≡ Status.NoMemory)))) }
     ensures silent { is_damaged result ≡ true → (H.written host.new ≡ H.written host.old) × (H.unread host.new ≡ H.unread host.old) }
     ensures kept { H.tells → IsHonest (H.standing host.old) → is_damaged result ≡ true → H.files host.new ≡ H.files host.old }
 
@@ -129,7 +131,8 @@ fn serve<H: Host>(alloc: Global, host: &mut H) -> Result<(), Status>
     ensures opened { H.tells → IsHonest (H.standing host.old) → (number : ℕ) → opened_of (H.files host.old).log ≡ Err number → OnOk result ⊥ }
     ensures done { H.tells → IsHonest (H.standing host.old) → (opened : Opened) → opened_of (H.files host.old).log ≡ Ok opened → OnOk result (H.written host.new ≡ H.written host.old ++ transcript (begun_with opened) (H.unread host.old)) }
     ensures log { H.tells → IsHonest (H.standing host.old) → (opened : Opened) → opened_of (H.files host.old).log ≡ Ok opened → OnOk result (IsWholeLog (H.files host.new).log (texts_at (H.files host.old).log ++ texts_from opened (H.unread host.old))) }
-    ensures crash { H.tells → IsHonest (H.standing host.old) → disk_of (H.history host.old).now FileKind.Log ≡ settled (H.files host.old).log → (opened : Opened) → opened_of (H.files host.old).log ≡ Ok opened → Since (IsSafeOnceTold (H.files host.old).log opened (H.unread host.old) (H.written host.old)) (H.history host.old) (H.history host.new) }
+    ensures crash { H.tells → IsHonest (H.standing host.old) → disk_of (H.history host.old).now FileKind.Log ≡ settled (H.files host.old).log → (opened : Opened) → opened_of (H.files host.old).log ≡ Ok opened → IsSafeFromOpening (H.files host.old).log opened (H.unread host.old) (H.written host.old) (H.history host.old) (H.history host.new) }
+    ensures safe { H.tells → IsHonest (H.standing host.old) → disk_of (H.history host.old).now FileKind.Log ≡ settled (H.files host.old).log → (opened : Opened) → opened_of (H.files host.old).log ≡ Ok opened → MatchResult result (λ _. IsSafe opened (H.unread host.old) (H.written host.old) (H.history host.new).now) (λ status. has_opened status ≡ true → IsSafe opened (H.unread host.old) (H.written host.old) (H.history host.new).now) }
     ensures before_too_long { H.tells → IsHonest (H.standing host.old) → (opened : Opened) → opened_of (H.files host.old).log ≡ Ok opened → IsErrOf result Status.InputTooLong → H.written host.new ≡ H.written host.old ++ transcript_within (2 ^ 30) (begun_with opened) (H.unread host.old) }
     ensures damaged { H.tells → IsHonest (H.standing host.old) → (damage : Damage) → IsErrOf result (Status.Damaged damage) → IsDamageOf (opened_of (H.files host.old).log) damage }
     ensures undamaged { H.tells → IsHonest (H.standing host.old) → (number : ℕ) → opened_of (H.files host.old).log ≡ Err number → IfErr result (λ status. (status ≡ Status.Damaged (Damage.Log number)) ⊎ ((status ≡ Status.DiskFault) ⊎ (status ≡ Status.NoMemory))) }

@@ -1,12 +1,17 @@
 use Rattle.std.proofs.Common.{◌≡◌, ◌⊎◌, ◌++◌, ℕ, Bool, List, IsTrue, inl, inr, Ok, Err, length, sym, ap, subst, ◌∙◌, arith}
 use Rattle.hs_host.specs.Files.{Five, IsHonest}
+use Rattle.hs_host.specs.declared.file_kind.FileKind.TheVariants as file
+use Rattle.hs_host.specs.Disk.{settled}
 use Rattle.hs_host.specs.Host.{Rose}
+use Rattle.hs_host.specs.Moments.{Moment, History, disk_of}
+use Rattle.hs_top.specs.Crash.{IsSafe, IsSafeFromOpening}
 use Rattle.hs_top.specs.declared.damage.Damage.{Damage}
 use Rattle.hs_top.specs.declared.damage.Damage.TheVariants.{Log}
-use Rattle.hs_top.specs.declared.status.Status.TheVariants.{NoMemory, InputTooLong, Damaged}
+use Rattle.hs_top.specs.declared.status.Status.TheVariants.{Usage, NoMemory, InputTooLong, Damaged}
 use Rattle.hs_top.specs.Opening.{Opened, opened_of, texts_at, texts_from, IsWholeLog, IsDamageOf}
-use Rattle.hs_top.proofs.Endings.{ended_as}
+use Rattle.hs_top.proofs.Endings.{ended_as, not_mounted_as}
 use Rattle.hs_top.proofs.Reopened.{reopened}
+use Rattle.hs_top.proofs.Safe.{not_opened, kept_safe}
 use Rattle.hs_top.proofs.run_over.run.Goals as goal
 use Rattle.hs_top.proofs.run_over.run.Goals.{After-serve}
 
@@ -64,3 +69,62 @@ returns-in-Err-serve-clause-complete g c = λ told honest own named input output
 pub returns-in-Err-serve-clause-complete_too_long : goal.returns-in-Err-serve-clause-complete_too_long
 returns-in-Err-serve-clause-complete_too_long g c = λ told honest own named input output disk opened is long.
     ends g (goal.at.returns-in-Err-serve-clause-complete_too_long g c).After-serve opened c.in-Err-serve.status c.in-Err-serve.is told honest input output disk is
+
+-- what serving says of a crash is said of the run
+module _ (g : _) (c : After-serve g) (told : g.H.Source.tells) (honest : IsHonest (g.H.Host.standing c.args.host.now))
+    (quiet : disk_of (g.H.Host.history c.args.host.now).now file.Log ≡ settled (g.H.Host.files c.args.host.now).log) (opened : Opened) (is : opened_of (g.H.Host.files c.args.host.now).log ≡ Ok opened) where
+  quiet_mounted : disk_of (g.H.Host.history c.mount.new.host).now file.Log ≡ settled (g.H.Host.files c.mount.new.host).log
+  quiet_mounted = ap (λ (h : History). disk_of h.now file.Log) (c.mount.ensures.history told) ∙ quiet ∙ ap settled (sym (same_log g c told))
+
+  is_mounted : opened_of (g.H.Host.files c.mount.new.host).log ≡ Ok opened
+  is_mounted = ap opened_of (same_log g c told) ∙ is
+
+  opens : IsSafeFromOpening (g.H.Host.files c.args.host.now).log opened (g.H.Source.unread c.args.host.now) (g.H.Host.written c.args.host.now) (g.H.Host.history c.args.host.now) (g.H.Host.history c.serve.new.host)
+  unfolding quiet_mounted is_mounted
+  opens =
+      subst (λ (old : List ℕ). IsSafeFromOpening old opened (g.H.Source.unread c.args.host.now) (g.H.Host.written c.args.host.now) (g.H.Host.history c.args.host.now) (g.H.Host.history c.serve.new.host)) (same_log g c told)
+      (subst (λ (h : History). IsSafeFromOpening (g.H.Host.files c.mount.new.host).log opened (g.H.Source.unread c.args.host.now) (g.H.Host.written c.args.host.now) h (g.H.Host.history c.serve.new.host)) (c.mount.ensures.history told)
+      (subst (λ (i : List ℕ). IsSafeFromOpening (g.H.Host.files c.mount.new.host).log opened i (g.H.Host.written c.args.host.now) (g.H.Host.history c.mount.new.host) (g.H.Host.history c.serve.new.host)) c.mount.ensures.unread
+      (subst (λ (w : List ℕ). IsSafeFromOpening (g.H.Host.files c.mount.new.host).log opened (g.H.Source.unread c.mount.new.host) w (g.H.Host.history c.mount.new.host) (g.H.Host.history c.serve.new.host)) c.mount.ensures.written
+      (c.serve.ensures.crash told (still g c honest) quiet_mounted opened is_mounted))))
+
+  safe_in_run : (m : Moment) → IsSafe opened (g.H.Source.unread c.mount.new.host) (g.H.Host.written c.mount.new.host) m → IsSafe opened (g.H.Source.unread c.args.host.now) (g.H.Host.written c.args.host.now) m
+  safe_in_run m safe =
+      subst (λ (i : List ℕ). IsSafe opened i (g.H.Host.written c.args.host.now) m) c.mount.ensures.unread
+      (subst (λ (w : List ℕ). IsSafe opened (g.H.Source.unread c.mount.new.host) w m) c.mount.ensures.written safe)
+
+pub returns-in-Ok-clause-crash : goal.returns-in-Ok-clause-crash
+returns-in-Ok-clause-crash g c = λ told honest quiet opened is. opens g (goal.at.returns-in-Ok-clause-crash g c).After-serve told honest quiet opened is
+
+pub returns-in-Err-serve-clause-crash : goal.returns-in-Err-serve-clause-crash
+returns-in-Err-serve-clause-crash g c = λ told honest quiet opened is. opens g (goal.at.returns-in-Err-serve-clause-crash g c).After-serve told honest quiet opened is
+
+pub returns-in_default-clause-safe : goal.returns-in_default-clause-safe
+returns-in_default-clause-safe g c = λ told honest quiet opened is.
+    let old = (g.H.Host.files c.args.host.now).log in
+    let input = g.H.Source.unread c.args.host.now in
+    let before = g.H.Host.written c.args.host.now in
+    let h = g.H.Host.history c.args.host.now in
+    kept_safe old opened input before h h Usage is quiet (g.met.H.Host.output_now c.args.host.now told) (not_opened old opened input before h) (λ has. absurd (cc))
+
+pub returns-in-Err-clause-safe : goal.returns-in-Err-clause-safe
+returns-in-Err-clause-safe g c = λ told honest quiet opened is has.
+    let old = (g.H.Host.files c.args.host.now).log in
+    let input = g.H.Source.unread c.args.host.now in
+    let before = g.H.Host.written c.args.host.now in
+    let h = g.H.Host.history c.args.host.now in
+    subst (λ (new : History). IsSafe opened input before new.now) (sym (c.mount.ensures.history told))
+    (kept_safe old opened input before h h c.in-Err.status is quiet (g.met.H.Host.output_now c.args.host.now told) (not_opened old opened input before h)
+    (λ later. absurd (not_mounted_as c.in-Err.status c.in-Err.ensures.only later)) has)
+
+pub returns-in-Ok-clause-safe : goal.returns-in-Ok-clause-safe
+returns-in-Ok-clause-safe g c = λ told honest quiet opened is has.
+    let at = (goal.at.returns-in-Ok-clause-safe g c).After-serve in
+    safe_in_run g at told honest quiet opened is (g.H.Host.history c.serve.new.host).now (c.in-Ok.ensures.safe told (still g at honest) (quiet_mounted g at told honest quiet opened is) opened (is_mounted g at told honest quiet opened is))
+
+pub returns-in-Err-serve-clause-safe : goal.returns-in-Err-serve-clause-safe
+returns-in-Err-serve-clause-safe g c = λ told honest quiet opened is.
+    let at = (goal.at.returns-in-Err-serve-clause-safe g c).After-serve in
+    kept_safe (g.H.Host.files c.args.host.now).log opened (g.H.Source.unread c.args.host.now) (g.H.Host.written c.args.host.now) (g.H.Host.history c.args.host.now) (g.H.Host.history c.serve.new.host) c.in-Err-serve.status
+    is quiet (g.met.H.Host.output_now c.args.host.now told) (opens g at told honest quiet opened is)
+    (λ has. safe_in_run g at told honest quiet opened is (g.H.Host.history c.serve.new.host).now (c.in-Err-serve.ensures.safe told (still g at honest) (quiet_mounted g at told honest quiet opened is) opened (is_mounted g at told honest quiet opened is) has))

@@ -1,52 +1,90 @@
-use Rattle.std.proofs.Common.{◌≡◌, ℕ, List, ◌++◌, Ok, length, inl, sym, ap, subst, ◌∙◌}
+use Rattle.std.proofs.Common.{◌≡◌, ℕ, List, ◌++◌, Ok, length, inl, inr, refl, sym, ap, subst, ◌∙◌}
 use Rattle.hs_host.specs.Files.{IsHonest}
-use Rattle.hs_host.specs.Moments.{Since}
-use Rattle.hs_host.proofs.Passing.{since_weaker, since_join}
-use Rattle.hs_top.specs.Crash.{IsSafeOnceTold, IsOpening}
+use Rattle.hs_host.specs.Moments.{Moment, Since}
+use Rattle.hs_host.proofs.Passing.{since_none, since_weaker}
+use Rattle.hs_top.specs.Crash.{IsSafe, IsOpening}
 use Rattle.hs_top.specs.Holding.{IsHeld}
 use Rattle.hs_top.specs.Opening.{Opened, opened_of, opened_by, texts_at, texts_from}
-use Rattle.hs_top.proofs.Endings.{damaged_as}
+use Rattle.hs_top.specs.Running.{texts_in}
+use Rattle.hs_top.proofs.Endings.{damaged_as, not_opened_as, safe_either}
+use Rattle.hs_top.proofs.Holding.{held_opened}
 use Rattle.hs_top.proofs.Reopened.{same_Ok}
-use Rattle.hs_top.proofs.Safe.{opened_counts, opening_safe, safe}
+use Rattle.hs_top.proofs.Safe.{opened_counts, safe_now, safe}
 use Rattle.hs_top.proofs.run_over.serve.Goals as goal
-use Rattle.hs_top.proofs.run_over.serve.Goals.{After-open_log}
+use Rattle.hs_top.proofs.run_over.serve.Goals.{After-open_log, After-answer_all}
 
 pub returns-in-Err-clause-undamaged : goal.returns-in-Err-clause-undamaged
 returns-in-Err-clause-undamaged g c = λ told honest number is.
     damaged_as _ (opened_of (g.H.Host.files c.args.host.now).log) number c.in-Err.status is c.in-Err.ensures.only (c.in-Err.ensures.damaged told honest)
 
 -- what a crash leaves while the log is opened
-opening : (g : _) (c : After-open_log g) → g.H.Source.tells → (opened : Opened) → opened_of (g.H.Host.files c.args.host.now).log ≡ Ok opened
+opening : (g : _) (c : After-open_log g) → g.H.Source.tells
     → Since (IsOpening (g.H.Host.files c.args.host.now).log (g.H.Host.history c.args.host.now).now.out) (g.H.Host.history c.args.host.now) (g.H.Host.history c.open_log.new.host)
-    → Since (IsSafeOnceTold (g.H.Host.files c.args.host.now).log opened (g.H.Source.unread c.args.host.now) (g.H.Host.written c.args.host.now)) (g.H.Host.history c.args.host.now) (g.H.Host.history c.open_log.new.host)
-opening g c told opened is moments =
-    let log = (g.H.Host.files c.args.host.now).log in
-    since_weaker moments
-    (λ m opens. opening_safe log opened (g.H.Source.unread c.args.host.now) (g.H.Host.written c.args.host.now) m is
-    (subst (λ (o : List ℕ). IsOpening log o m) (g.met.H.Host.output_now c.args.host.now told) opens))
+    → Since (IsOpening (g.H.Host.files c.args.host.now).log (g.H.Host.written c.args.host.now)) (g.H.Host.history c.args.host.now) (g.H.Host.history c.open_log.new.host)
+opening g c told moments =
+    subst (λ (o : List ℕ). Since (IsOpening (g.H.Host.files c.args.host.now).log o) (g.H.Host.history c.args.host.now) (g.H.Host.history c.open_log.new.host)) (g.met.H.Host.output_now c.args.host.now told) moments
 
 pub returns-in-Err-clause-crash : goal.returns-in-Err-clause-crash
 returns-in-Err-clause-crash g c = λ told honest quiet opened is.
-    opening g (goal.at.returns-in-Err-clause-crash g c).After-open_log told opened is (c.open_log.ensures.moments told honest quiet)
+    record {
+      opening = g.H.Host.history c.open_log.new.host;
+      begins = opening g (goal.at.returns-in-Err-clause-crash g c).After-open_log told (c.open_log.ensures.moments told honest quiet);
+      first = inl refl;
+      each = since_none _ _;
+    }
+
+pub returns-in-Err-clause-safe : goal.returns-in-Err-clause-safe
+returns-in-Err-clause-safe g c = λ told honest quiet opened is has.
+    absurd (not_opened_as _ c.in-Err.status c.in-Err.ensures.only has)
 
 pub answer_all-requires-clause-counted : goal.answer_all-requires-clause-counted
 answer_all-requires-clause-counted g c = λ told honest.
     let before : IsHonest (g.H.Host.standing c.args.host.now) = subst IsHonest c.in-Ok.ensures.standing honest in
     opened_counts (g.H.Host.files c.args.host.now).log (opened_by c.in-Ok.opening) (c.in-Ok.ensures.opened told before) ∙ sym (ap length (c.in-Ok.ensures.texts told before))
 
-pub returns-clause-crash : goal.returns-clause-crash
-returns-clause-crash g c = λ told honest quiet opened is.
+-- at each moment of the work the log is safe
+works : (g : _) (c : After-answer_all g) → g.H.Source.tells → IsHonest (g.H.Host.standing c.args.host.now) → (opened : Opened) → opened_of (g.H.Host.files c.args.host.now).log ≡ Ok opened → (m : Moment)
+    → IsHeld (length (texts_in (g.H.Host.files c.open_log.new.host))) (texts_in (g.H.Host.files c.open_log.new.host) ++ texts_from (opened_by c.in-Ok.opening) (g.H.Source.unread c.open_log.new.host)) (g.H.Host.written c.open_log.new.host) m
+    → IsSafe opened (g.H.Source.unread c.args.host.now) (g.H.Host.written c.args.host.now) m
+works g c told honest opened is m held =
     let old = (g.H.Host.files c.args.host.now).log in
     let input = g.H.Source.unread c.args.host.now in
     let before = g.H.Host.written c.args.host.now in
     let ok = c.in-Ok.ensures in
-    let still : IsHonest (g.H.Host.standing c.open_log.new.host) = subst IsHonest (sym ok.standing) honest in
     let by : opened_by c.in-Ok.opening ≡ opened = same_Ok (opened_by c.in-Ok.opening) opened (sym (ok.opened told honest) ∙ is) in
-    let texts = ok.texts told honest in
-    since_join (opening g (goal.at.returns-clause-crash g c).After-open_log told opened is (c.open_log.ensures.moments told honest quiet))
-    (since_weaker (c.answer_all.ensures.moments told still)
-    (λ m held. inl (safe old opened input before m is
+    safe old opened input before m is
     (subst (λ (w : List ℕ). IsHeld (length (texts_at old)) (texts_at old ++ texts_from opened input) w m) ok.written
     (subst (λ (i : List ℕ). IsHeld (length (texts_at old)) (texts_at old ++ texts_from opened i) (g.H.Host.written c.open_log.new.host) m) ok.unread
     (subst (λ (o : Opened). IsHeld (length (texts_at old)) (texts_at old ++ texts_from o (g.H.Source.unread c.open_log.new.host)) (g.H.Host.written c.open_log.new.host) m) by
-    (subst (λ (ts : List (List ℕ)). IsHeld (length ts) (ts ++ texts_from (opened_by c.in-Ok.opening) (g.H.Source.unread c.open_log.new.host)) (g.H.Host.written c.open_log.new.host) m) texts held)))))))
+    (subst (λ (ts : List (List ℕ)). IsHeld (length ts) (ts ++ texts_from (opened_by c.in-Ok.opening) (g.H.Source.unread c.open_log.new.host)) (g.H.Host.written c.open_log.new.host) m) (ok.texts told honest) held))))
+
+-- and so it is when it is open
+opened_safe : (g : _) (c : After-answer_all g) → g.H.Source.tells → IsHonest (g.H.Host.standing c.args.host.now) → (opened : Opened) → opened_of (g.H.Host.files c.args.host.now).log ≡ Ok opened
+    → IsSafe opened (g.H.Source.unread c.args.host.now) (g.H.Host.written c.args.host.now) (g.H.Host.history c.open_log.new.host).now
+opened_safe g c told honest opened is =
+    let ok = c.in-Ok.ensures in
+    works g c told honest opened is (g.H.Host.history c.open_log.new.host).now
+    (held_opened (g.H.Host.files c.open_log.new.host) (g.H.Host.history c.open_log.new.host) c.in-Ok.opening.log ok.sound (ok.logged told honest) (ok.calm told honest)
+    (g.H.Host.written c.open_log.new.host) (texts_from (opened_by c.in-Ok.opening) (g.H.Source.unread c.open_log.new.host)) (g.met.H.Host.output_now c.open_log.new.host told))
+
+-- from then on
+each_safe : (g : _) (c : After-answer_all g) → g.H.Source.tells → IsHonest (g.H.Host.standing c.args.host.now) → (opened : Opened) → opened_of (g.H.Host.files c.args.host.now).log ≡ Ok opened
+    → Since (IsSafe opened (g.H.Source.unread c.args.host.now) (g.H.Host.written c.args.host.now)) (g.H.Host.history c.open_log.new.host) (g.H.Host.history c.answer_all.new.host)
+each_safe g c told honest opened is =
+    let still : IsHonest (g.H.Host.standing c.open_log.new.host) = subst IsHonest (sym c.in-Ok.ensures.standing) honest in
+    since_weaker (c.answer_all.ensures.moments told still) (works g c told honest opened is)
+
+pub returns-clause-crash : goal.returns-clause-crash
+returns-clause-crash g c = λ told honest quiet opened is.
+    let at = (goal.at.returns-clause-crash g c).After-answer_all in
+    record {
+      opening = g.H.Host.history c.open_log.new.host;
+      begins = opening g (goal.at.returns-clause-crash g c).After-open_log told (c.open_log.ensures.moments told honest quiet);
+      first = inr (opened_safe g at told honest opened is);
+      each = each_safe g at told honest opened is;
+    }
+
+pub returns-clause-safe : goal.returns-clause-safe
+returns-clause-safe g c = λ told honest quiet opened is.
+    let at = (goal.at.returns-clause-safe g c).After-answer_all in
+    safe_either c.answer_all.result (safe_now (opened_safe g at told honest opened is) (each_safe g at told honest opened is))
