@@ -4,7 +4,7 @@
 # usage: bench/fail_alloc.sh
 #
 # A run whose allocation is refused must end with status 5 and a front of the example's output, and the log that
-# it leaves must open at a commit, and not before one that was told. Past the last allocation the run ends
+# it leaves must open at a commit, and not before an acknowledged one. Past the last allocation the run ends
 # with status 0 and the whole output, and the loop stops. It needs a C compiler, since the allocations are
 # refused by a library that is loaded before the C library's. A single one can be refused, before any proof,
 # by `rt try --fail-alloc NUMBER`. This is no part of the gate.
@@ -38,6 +38,6 @@ for ((number = 1; number < 1000; number++)); do
     [ "$size" = 0 ] || fronts=$((fronts + 1))
     "$program" "$work/db" </dev/null >"$work/again" || fail "the log that is left isn't opened"
     opened=$(sed -n '1s/opened at //p' "$work/again")
-    [ "$opened" -ge "$(grep -c ' committed ' "$work/output")" ] || fail "a commit that was told is lost"
+    [ "$opened" -ge "$(grep -c ' committed ' "$work/output")" ] || fail "an acknowledged commit is lost"
 done
 fail "no run was whole"

@@ -4,7 +4,7 @@
 # usage: bench/kill.sh [ROUNDS]      (default: 100)
 #
 # Each round answers INSERTs without end and is killed (SIGKILL) after 1 to 40 milliseconds. The next run must open the log,
-# at a commit that isn't before one that was told, nor before the one at which the round began. So the log isn't
+# at a commit that isn't before an acknowledged one, nor before the one at which the round began. So the log isn't
 # only read back whole: what stands behind its closed gate when the program dies is of any kind. A killed process isn't a
 # power cut, since what was written and not synced stays. This is no part of the gate.
 set -eu
@@ -36,11 +36,11 @@ for ((round = 1; round <= rounds; round++)); do
     sleep "0.0$(printf '%02d' $((RANDOM % 40 + 1)))"
     kill -KILL $! 2>/dev/null || true
     wait $! 2>/dev/null || true
-    told=$(grep -o 'committed [0-9]*$' "$work/output" | tail -1 | cut -d' ' -f2)
+    acknowledged=$(grep -o 'committed [0-9]*$' "$work/output" | tail -1 | cut -d' ' -f2)
     closed=$(wc -c <"$work/db.log")
     open
-    [ "$opened" -ge "${told:-0}" ] || fail "commit $told was told, and the next run opened at $opened"
+    [ "$opened" -ge "${acknowledged:-0}" ] || fail "commit $acknowledged was acknowledged, and the next run opened at $opened"
     [ "$opened" -ge "$before" ] || fail "the run began at $before, and the next one opened at $opened"
     [ "$(wc -c <"$work/db.log")" = "$closed" ] || torn=$((torn + 1))
 done
-echo "$rounds rounds killed, the log opened behind each at all that was told; $opened commits; in $torn rounds bytes of a group stood behind the closed gate"
+echo "$rounds rounds killed, the log opened behind each with every acknowledged commit; $opened commits; in $torn rounds bytes of a group stood behind the closed gate"
