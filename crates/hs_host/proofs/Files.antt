@@ -24,3 +24,16 @@ with_of five Script1 = refl
 with_of five Log = refl
 with_of five Data = refl
 with_of five Backup = refl
+
+-- what goes together for each file does so where both are changed for one
+pub each_with : {A B : Type 0} (R : A → B → Type 0) (xs : Five A) (ys : Five B) (file : FileKind) (x : A) (y : B) → ((k : FileKind) → R (of xs k) (of ys k)) → R x y → (k : FileKind) → R (of (with_ xs file x) k) (of (with_ ys file y) k)
+each_with R xs ys Script0 x y each one Script0 = one
+each_with R xs ys Script0 x y each one k = each k
+each_with R xs ys Script1 x y each one Script1 = one
+each_with R xs ys Script1 x y each one k = each k
+each_with R xs ys Log x y each one Log = one
+each_with R xs ys Log x y each one k = each k
+each_with R xs ys Data x y each one Data = one
+each_with R xs ys Data x y each one k = each k
+each_with R xs ys Backup x y each one Backup = one
+each_with R xs ys Backup x y each one k = each k

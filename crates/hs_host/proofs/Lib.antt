@@ -1,3 +1,4 @@
+pub mod Contents
 pub mod Files
 pub mod Passing
 pub mod Torn

@@ -3,7 +3,7 @@ use Rattle.std.specs.Prelude.{◌≡◌, ◌⊎◌, ℕ, ◌+◌, ◌<◌, ◌�
 
 -- What the disk has of a file: its bytes at the last sync that answered `Ok`, or at mount; whether a write or a cut was
 -- called since; the least of the length at that sync and of all lengths to which a cut was called since; and the places
--- that a write was called for since, each as the first place and how many. Calls that failed are among them.
+-- that a write was called for since, each as the first place and how many. Calls that failed may be among them.
 pub record Pending : Type 0 where
   pub synced : List ℕ
   pub touched : Bool

@@ -22,10 +22,6 @@ disk_of m file = of m.disks file
 abbrev pub with_disk : Moment → FileKind → Pending → Moment
 with_disk m file p = record m { disks = with_ m.disks file p }
 
--- a crash at this moment may leave these files
-abbrev pub LeavesFiles : Moment → Five (List ℕ) → Type 0
-LeavesFiles m files = (file : FileKind) → Leaves (disk_of m file) (of files file)
-
 -- all files are on the disk as a read gives them
 abbrev pub settled_files : Five (List ℕ) → Five Pending
 settled_files f = record { script0 = settled f.script0; script1 = settled f.script1; log = settled f.log; data_ = settled f.data_; backup = settled f.backup }

@@ -2,7 +2,8 @@
 ghost use Rattle.std.specs.Prelude.{◌≡◌, ℕ, ◌+◌, ◌^◌, ◌<◌, ◌≤◌, List, [], ◌++◌, length, take, IfOk, OnOk, OnErr, IsErrOf, MatchResult};
 ghost use Rattle.std.specs.Io.{WritesAtMost};
 ghost use Rattle.hs_host.specs.Files.{Five, of, with_, overwrite, piece, Standing, IsUnnamed, IsOpen, IsForeign, IsHonest, mounted};
-ghost use Rattle.hs_host.specs.Disk.{written_at, cut_to, settled};
+ghost use Rattle.hs_host.specs.declared.file_kind.FileKind.{FileKind};
+ghost use Rattle.hs_host.specs.Disk.{Leaves, written_at, cut_to, settled};
 ghost use Rattle.hs_host.specs.Host.{HasCause, HasMountCause, Rose, AddsOutput};
 ghost use Rattle.hs_host.specs.Moments.{History, Moment, Since, IsStill, IsWritten, IsCut, IsSynced, IsTold, disk_of, with_disk};
 
@@ -141,6 +142,8 @@ pub trait Host: Source {
     ghost reading_keeps_files: { (a b : Self) → Self.only_input a b → (files b ≡ files a) × (standing b ≡ standing a) × (disk_faults b ≡ disk_faults a) };
 
     ghost output_now: { (h : Self) → Self.tells → (history h).now.out ≡ written h };
+
+    ghost read_may_be_left: { (h : Self) → Self.tells → IsHonest (standing h) → (file : FileKind) → Leaves (disk_of (history h).now file) (of (files h) file) };
 
     ghost reading_passes: { (a b : Self) → Self.only_input a b → Self.tells → Since (IsStill (history a).now) (history a) (history b) };
 }

@@ -1,8 +1,7 @@
 -- What the devices of a host in memory stand for.
-use Rattle.std.specs.Prelude.{◌≡◌, ℕ, List, [], ◌∷◌, ◌++◌}
+use Rattle.std.specs.Prelude.{ℕ, List}
 use Rattle.hs_host.specs.Files.{Five}
 use Rattle.hs_host.specs.Moments.{History}
-use Rattle.hs_memhost.specs.declared.call.Call.{Call}
 use Rattle.hs_memhost.specs.declared.devices.Devices.{Devices}
 use Rattle.hs_memhost.specs.Files.{contents_of}
 use Rattle.hs_memhost.specs.Replay.{files_after, history_of}
@@ -14,8 +13,3 @@ files_on d = files_after (contents_of d.first) d.calls.items
 -- the moments so far
 abbrev pub history_on : Devices → History
 history_on d = history_of (contents_of d.first) d.calls.items
-
--- one call more is kept
-pub record IsAfter (old : Devices) (call : Call) (new : Devices) : Type 0 where
-  pub first : contents_of new.first ≡ contents_of old.first
-  pub calls : new.calls.items ≡ old.calls.items ++ call ∷ []

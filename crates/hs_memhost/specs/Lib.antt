@@ -2,6 +2,7 @@ pub mod Devices
 pub mod Files
 pub mod Images
 pub mod Input
+pub mod Left
 pub mod Memory
 pub mod Mounting
 pub mod Never

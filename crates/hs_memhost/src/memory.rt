@@ -175,6 +175,8 @@ impl Source for MemHost {
 
 impl Host for MemHost {
     ghost use Rattle.hs_memhost.specs.Memory.{calls_of, failing_of, files_in, history_in, output_in, standing_in};
+    ghost use Rattle.hs_memhost.specs.Files.{contents_of};
+    ghost use Rattle.hs_memhost.specs.Left.{may_be_left};
     ghost use Rattle.hs_host.specs.Moments.{Since, IsStill, IsWritten, IsCut, IsSynced, IsTold};
     ghost use Rattle.hs_memhost.specs.Replay.{still_since};
 
@@ -193,6 +195,8 @@ impl Host for MemHost {
     ghost reading_keeps_output = { λ a b read. (ap (λ k. k.history.now.out) read, ap (λ k. k.output_faults) read) };
 
     ghost output_now = { λ h told. refl };
+
+    ghost read_may_be_left = { λ h told honest file. may_be_left (contents_of h.devices.first) h.devices.calls.items file };
 
     ghost reading_passes = { λ a b read told. still_since (ap (λ k. k.history) read) };
 

@@ -77,6 +77,8 @@ impl Source for NeverFails {
 
 impl Host for NeverFails {
     ghost use Rattle.hs_memhost.specs.Devices.{files_on, history_on};
+    ghost use Rattle.hs_memhost.specs.Files.{contents_of};
+    ghost use Rattle.hs_memhost.specs.Left.{may_be_left};
     ghost use Rattle.hs_memhost.specs.Mounting.{standing_of};
     ghost use Rattle.hs_memhost.specs.Replay.{still_since};
 
@@ -95,6 +97,8 @@ impl Host for NeverFails {
     ghost reading_keeps_output = { λ a b read. (ap (λ k. k.history.now.out) read, refl) };
 
     ghost output_now = { λ h told. refl };
+
+    ghost read_may_be_left = { λ h told honest file. may_be_left (contents_of h.devices.first) h.devices.calls.items file };
 
     ghost reading_passes = { λ a b read told. still_since (ap (λ k. k.history) read) };
 

@@ -100,6 +100,8 @@ impl<'a, F: Files<File = File>, R: Read + Drop, W: Write + Drop> Host for FileHo
 
     ghost output_now = { λ h told. refl };
 
+    ghost read_may_be_left = { λ h told honest file. absurd told };
+
     ghost reading_passes = { λ a b read told. absurd told };
 
     ghost reading_keeps_output = { λ a b read. (refl, read.0) };
