@@ -270,6 +270,8 @@ impl Host for Noting {
 
     ghost output_now = { λ h told. refl };
 
+    ghost read_may_be_left = { λ h told honest file. ⟦<MemHost as Host>⟧.read_may_be_left h.inner told honest file };
+
     ghost reading_passes = { λ a b read told. still_since (ap (λ k. k.history) read) };
 
     ghost reading_keeps_output = { λ a b read. (ap (λ k. k.history.now.out) read, ap (λ k. k.output_faults) read) };
