@@ -136,6 +136,10 @@ pub kept_safe : (old : List ℕ) (opened : Opened) (input before : List ℕ) (st
 kept_safe old opened input before start now status is quiet out s later (inl has) = later has
 kept_safe old opened input before start now status is quiet out s later (inr born) = born_safe old opened input before start now is born quiet out s
 
+-- and the log as a read gives it is among what a crash may leave
+pub left_now : (opened : Opened) (input before : List ℕ) (m : Moment) (written log : List ℕ) → IsSafe opened input before m → m.out ≡ written → Leaves (disk_of m Log) log → Survives opened input before written log
+left_now opened input before m written log safe out leaves = subst (λ (o : List ℕ). Survives opened input before o log) out (safe log leaves)
+
 -- what was opened has as many commits as its log has texts
 pub opened_counts : (old : List ℕ) (opened : Opened) → opened_of old ≡ Ok opened → opened.database.commits ≡ length (texts_at old)
 opened_counts old opened is = omega (arith, commits_of_texts (texts_at old) nothing_logged opened (old_gives old opened is))

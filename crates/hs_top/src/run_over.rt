@@ -7,7 +7,7 @@ ghost use Rattle.hs_host.specs.Files.{IsUnnamed, IsOpen, IsForeign, IsHonest};
 ghost use Rattle.hs_host.specs.Moments.{Since, disk_of};
 ghost use Rattle.hs_entries.specs.Items.{items};
 ghost use Rattle.hs_top.specs.Command.{database_of};
-ghost use Rattle.hs_top.specs.Crash.{IsSafe, IsSafeFromOpening, HasLog};
+ghost use Rattle.hs_top.specs.Crash.{IsSafe, IsSafeFromOpening, HasLog, Survives};
 ghost use Rattle.hs_top.specs.Holding.{IsHeld};
 ghost use Rattle.hs_top.specs.Machine.{WritesFront, transcript, transcript_within, machine, texts_of};
 ghost use Rattle.hs_top.specs.Opening.{Opened, opened_of, opened_by, begun_with, texts_at, texts_from, ended_with, shown, IsWholeLog, IsDamageOf};
@@ -65,6 +65,7 @@ pub fn run<H: Host>(alloc: Global, words: &Words, host: &mut H) -> Status
     // What a crash leaves, at each moment of the run.
     ensures crash { H.tells → IsHonest (H.standing host.old) → disk_of (H.history host.old).now FileKind.Log ≡ settled (H.files host.old).log → (opened : Opened) → opened_of (H.files host.old).log ≡ Ok opened → IsSafeFromOpening (H.files host.old).log opened (H.unread host.old) (H.written host.old) (H.history host.old) (H.history host.new) }
     ensures safe { H.tells → IsHonest (H.standing host.old) → disk_of (H.history host.old).now FileKind.Log ≡ settled (H.files host.old).log → (opened : Opened) → opened_of (H.files host.old).log ≡ Ok opened → HasLog (H.files host.old).log result → IsSafe opened (H.unread host.old) (H.written host.old) (H.history host.new).now }
+    ensures left { H.tells → IsHonest (H.standing host.old) → disk_of (H.history host.old).now FileKind.Log ≡ settled (H.files host.old).log → (opened : Opened) → opened_of (H.files host.old).log ≡ Ok opened → HasLog (H.files host.old).log result → Survives opened (H.unread host.old) (H.written host.old) (H.written host.new) (H.files host.new).log }
 
     // Faults of the devices.
     ensures input_fault { result ≡ Status.InputFault → Rose (H.input_faults host.old) (H.input_faults host.new) }

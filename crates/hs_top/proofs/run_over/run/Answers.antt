@@ -4,14 +4,14 @@ use Rattle.hs_host.specs.declared.file_kind.FileKind.TheVariants as file
 use Rattle.hs_host.specs.Disk.{settled}
 use Rattle.hs_host.specs.Host.{Rose}
 use Rattle.hs_host.specs.Moments.{Moment, History, disk_of}
-use Rattle.hs_top.specs.Crash.{IsSafe, IsSafeFromOpening}
+use Rattle.hs_top.specs.Crash.{IsSafe, IsSafeFromOpening, Survives}
 use Rattle.hs_top.specs.declared.damage.Damage.{Damage}
 use Rattle.hs_top.specs.declared.damage.Damage.TheVariants.{Log}
 use Rattle.hs_top.specs.declared.status.Status.TheVariants.{Usage, NoMemory, InputTooLong, Damaged}
 use Rattle.hs_top.specs.Opening.{Opened, opened_of, texts_at, texts_from, IsWholeLog, IsDamageOf}
 use Rattle.hs_top.proofs.Endings.{ended_as, not_mounted_as}
 use Rattle.hs_top.proofs.Reopened.{reopened}
-use Rattle.hs_top.proofs.Safe.{not_opened, kept_safe}
+use Rattle.hs_top.proofs.Safe.{not_opened, kept_safe, left_now}
 use Rattle.hs_top.proofs.run_over.run.Goals as goal
 use Rattle.hs_top.proofs.run_over.run.Goals.{After-serve}
 
@@ -128,3 +128,33 @@ returns-in-Err-serve-clause-safe g c = λ told honest quiet opened is.
     kept_safe (g.H.Host.files c.args.host.now).log opened (g.H.Source.unread c.args.host.now) (g.H.Host.written c.args.host.now) (g.H.Host.history c.args.host.now) (g.H.Host.history c.serve.new.host) c.in-Err-serve.status
     is quiet (g.met.H.Host.output_now c.args.host.now told) (opens g at told honest quiet opened is)
     (λ has. safe_in_run g at told honest quiet opened is (g.H.Host.history c.serve.new.host).now (c.in-Err-serve.ensures.safe told (still g at honest) (quiet_mounted g at told honest quiet opened is) opened (is_mounted g at told honest quiet opened is) has))
+
+-- the log as it stands after serving
+still_after : (g : _) (c : After-serve g) → IsHonest (g.H.Host.standing c.args.host.now) → IsHonest (g.H.Host.standing c.serve.new.host)
+still_after g c honest = subst IsHonest (sym c.serve.ensures.standing) (still g c honest)
+
+left_in_run : (g : _) (c : After-serve g) → g.H.Source.tells → IsHonest (g.H.Host.standing c.args.host.now) → (opened : Opened)
+    → IsSafe opened (g.H.Source.unread c.args.host.now) (g.H.Host.written c.args.host.now) (g.H.Host.history c.serve.new.host).now
+    → Survives opened (g.H.Source.unread c.args.host.now) (g.H.Host.written c.args.host.now) (g.H.Host.written c.serve.new.host) (g.H.Host.files c.serve.new.host).log
+left_in_run g c told honest opened safe =
+    left_now opened (g.H.Source.unread c.args.host.now) (g.H.Host.written c.args.host.now) (g.H.Host.history c.serve.new.host).now (g.H.Host.written c.serve.new.host) (g.H.Host.files c.serve.new.host).log
+    safe (g.met.H.Host.output_now c.serve.new.host told) (g.met.H.Host.read_may_be_left c.serve.new.host told (still_after g c honest) file.Log)
+
+pub returns-in_default-clause-left : goal.returns-in_default-clause-left
+returns-in_default-clause-left g c = λ told honest quiet opened is has.
+    left_now opened (g.H.Source.unread c.args.host.now) (g.H.Host.written c.args.host.now) (g.H.Host.history c.args.host.now).now (g.H.Host.written c.args.host.now) (g.H.Host.files c.args.host.now).log
+    (returns-in_default-clause-safe g c told honest quiet opened is has) (g.met.H.Host.output_now c.args.host.now told) (g.met.H.Host.read_may_be_left c.args.host.now told honest file.Log)
+
+pub returns-in-Err-clause-left : goal.returns-in-Err-clause-left
+returns-in-Err-clause-left g c = λ told honest quiet opened is has.
+    left_now opened (g.H.Source.unread c.args.host.now) (g.H.Host.written c.args.host.now) (g.H.Host.history c.mount.new.host).now (g.H.Host.written c.mount.new.host) (g.H.Host.files c.mount.new.host).log
+    (returns-in-Err-clause-safe g c told honest quiet opened is has) (g.met.H.Host.output_now c.mount.new.host told)
+    (g.met.H.Host.read_may_be_left c.mount.new.host told (subst (λ (b : Bool). IsTrue b) (sym c.mount.ensures.honest) honest) file.Log)
+
+pub returns-in-Ok-clause-left : goal.returns-in-Ok-clause-left
+returns-in-Ok-clause-left g c = λ told honest quiet opened is has.
+    left_in_run g (goal.at.returns-in-Ok-clause-left g c).After-serve told honest opened (returns-in-Ok-clause-safe g c told honest quiet opened is has)
+
+pub returns-in-Err-serve-clause-left : goal.returns-in-Err-serve-clause-left
+returns-in-Err-serve-clause-left g c = λ told honest quiet opened is has.
+    left_in_run g (goal.at.returns-in-Err-serve-clause-left g c).After-serve told honest opened (returns-in-Err-serve-clause-safe g c told honest quiet opened is has)
