@@ -3,7 +3,7 @@
 #
 # usage: bench/fail_alloc.sh
 #
-# A run whose allocation is refused must end with status 5 and a front of the example's output, and the log that
+# A run whose allocation is refused must end with status 5 and a prefix of the example's output, and the log that
 # it leaves must open at a commit, and not before an acknowledged one. Past the last allocation the run ends
 # with status 0 and the whole output, and the loop stops. It needs a C compiler, since the allocations are
 # refused by a library that is loaded before the C library's. A single one can be refused, before any proof,
@@ -31,7 +31,7 @@ for ((number = 1; number < 1000; number++)); do
     cmp -s <(head -c "$size" "$top/examples/first.out") "$work/output" || fail "the output is no front of the expected one"
     if [ "$status" = 0 ]; then
         cmp -s "$top/examples/first.out" "$work/output" || fail "the output isn't whole"
-        echo "$((number - 1)) allocations were refused in turn: each run ended with status 5 and a front of the output, $fronts of them not empty"
+        echo "$((number - 1)) allocations were refused in turn: each run ended with status 5 and a prefix of the output, $fronts of them not empty"
         exit 0
     fi
     [ "$status" = 5 ] || fail "the status is $status"

@@ -3,7 +3,7 @@ use Rattle.std.proofs.Common.{◌≡◌, ℕ, ◌+◌, ◌<◌, ◌≤◌, List,
 use Rattle.hs_host.specs.declared.file_kind.FileKind.{FileKind}
 use Rattle.hs_host.specs.Files.{Five, of, overwrite}
 use Rattle.hs_host.specs.Disk.{Pending, settled, written_at, cut_to}
-use Rattle.hs_host.specs.Fronts.{KeepsFront}
+use Rattle.hs_host.specs.Prefixes.{KeepsPrefix}
 use Rattle.hs_host.specs.Moments.{Moment, History, Since, OneFile, IsStill, IsWritten, IsCut, IsSynced, disk_of, with_disk}
 use Rattle.hs_host.proofs.Files.{of_with, with_with, with_of}
 use Rattle.hs_host.proofs.Passing.{since_join, since_weaker, since_now, still_now}
@@ -74,44 +74,44 @@ any_writing {a} {b} {file} {at} {new} {old} ab =
 pub any_on : {a b c : History} {file : FileKind} → Since (OneFile a.now file IsAny) a b → Since (OneFile b.now file IsAny) b c → Since (OneFile a.now file IsAny) a c
 any_on {a} {b} {c} {file} ab bc = one_on IsAny a b c file ab bc
 
--- a disk that keeps a front of the file
-pub written_keeps : (p : Pending) (at count n : ℕ) (bytes : List ℕ) → KeepsFront p n bytes → n ≤ at → KeepsFront (written_at at count p) n bytes
+-- a disk that keeps a prefix of the file
+pub written_keeps : (p : Pending) (at count n : ℕ) (bytes : List ℕ) → KeepsPrefix p n bytes → n ≤ at → KeepsPrefix (written_at at count p) n bytes
 written_keeps p at count n bytes keeps le = record { long = keeps.long; low = keeps.low; same = keeps.same; behind = (le, keeps.behind) }
 
-cut_keeps : (p : Pending) (len n : ℕ) (bytes : List ℕ) → KeepsFront p n bytes → n ≤ len → KeepsFront (cut_to len p) n bytes
+cut_keeps : (p : Pending) (len n : ℕ) (bytes : List ℕ) → KeepsPrefix p n bytes → n ≤ len → KeepsPrefix (cut_to len p) n bytes
 cut_keeps p len n bytes keeps le = record { long = keeps.long; low = omega (arith, keeps.low, le); same = keeps.same; behind = keeps.behind }
 
-pub settled_keeps : (synced bytes : List ℕ) (n : ℕ) → n ≤ length synced → take n synced ≡ take n bytes → KeepsFront (settled synced) n bytes
+pub settled_keeps : (synced bytes : List ℕ) (n : ℕ) → n ≤ length synced → take n synced ≡ take n bytes → KeepsPrefix (settled synced) n bytes
 settled_keeps synced bytes n long same = record { long = long; low = long; same = same; behind = tt }
 
-pub keeps_same : (p : Pending) (n : ℕ) (new old : List ℕ) → KeepsFront p n old → take n new ≡ take n old → KeepsFront p n new
+pub keeps_same : (p : Pending) (n : ℕ) (new old : List ℕ) → KeepsPrefix p n old → take n new ≡ take n old → KeepsPrefix p n new
 keeps_same p n new old keeps same = record { long = keeps.long; low = keeps.low; same = keeps.same ∙ sym same; behind = keeps.behind }
 
 -- and so the disk of a moment
-pub keeps_written : (before m : Moment) (file : FileKind) (at count n : ℕ) (bytes : List ℕ) → KeepsFront (disk_of before file) n bytes → n ≤ at → IsWritten before file at count m → KeepsFront (disk_of m file) n bytes
+pub keeps_written : (before m : Moment) (file : FileKind) (at count n : ℕ) (bytes : List ℕ) → KeepsPrefix (disk_of before file) n bytes → n ≤ at → IsWritten before file at count m → KeepsPrefix (disk_of m file) n bytes
 keeps_written before m file at count n bytes keeps le is =
     rw (disk_is before m file (written_at at count (disk_of before file)) is) (written_keeps (disk_of before file) at count n bytes keeps le)
 
-pub keeps_cut : (before m : Moment) (file : FileKind) (len n : ℕ) (bytes : List ℕ) → KeepsFront (disk_of before file) n bytes → n ≤ len → IsCut before file len m → KeepsFront (disk_of m file) n bytes
+pub keeps_cut : (before m : Moment) (file : FileKind) (len n : ℕ) (bytes : List ℕ) → KeepsPrefix (disk_of before file) n bytes → n ≤ len → IsCut before file len m → KeepsPrefix (disk_of m file) n bytes
 keeps_cut before m file len n bytes keeps le is =
     rw (disk_is before m file (cut_to len (disk_of before file)) is) (cut_keeps (disk_of before file) len n bytes keeps le)
 
-pub keeps_synced : (before m : Moment) (file : FileKind) (n : ℕ) (bytes : List ℕ) → n ≤ length bytes → IsSynced before file bytes m → KeepsFront (disk_of m file) n bytes
+pub keeps_synced : (before m : Moment) (file : FileKind) (n : ℕ) (bytes : List ℕ) → n ≤ length bytes → IsSynced before file bytes m → KeepsPrefix (disk_of m file) n bytes
 keeps_synced before m file n bytes le is = rw (disk_is before m file (settled bytes) is) (settled_keeps bytes bytes n le refl)
 
 -- whatever a crash leaves begins with that front
-begins_left : (before m : Moment) (file : FileKind) (p : Pending) (n : ℕ) (bytes : List ℕ) → KeepsFront p n bytes → m ≡ with_disk before file p → OneFile before file (BeginsWith n bytes) m
+begins_left : (before m : Moment) (file : FileKind) (p : Pending) (n : ℕ) (bytes : List ℕ) → KeepsPrefix p n bytes → m ≡ with_disk before file p → OneFile before file (BeginsWith n bytes) m
 begins_left before m file p n bytes keeps is = record { disk = p; is = is; each = λ left leaves. front_stays p n bytes left keeps leaves }
 
-pub begins_still : (a b : History) (file : FileKind) (n : ℕ) (bytes : List ℕ) → KeepsFront (disk_of a.now file) n bytes → Since (IsStill a.now) a b → Since (OneFile a.now file (BeginsWith n bytes)) a b
+pub begins_still : (a b : History) (file : FileKind) (n : ℕ) (bytes : List ℕ) → KeepsPrefix (disk_of a.now file) n bytes → Since (IsStill a.now) a b → Since (OneFile a.now file (BeginsWith n bytes)) a b
 begins_still a b file n bytes keeps ab = since_weaker ab (λ m is. begins_left a.now m file (disk_of a.now file) n bytes keeps (same_disk a.now m file is))
 
-pub begins_written : (a b : History) (file : FileKind) (at count n : ℕ) (bytes : List ℕ) → KeepsFront (disk_of a.now file) n bytes → n ≤ at → Since (IsWritten a.now file at count) a b
+pub begins_written : (a b : History) (file : FileKind) (at count n : ℕ) (bytes : List ℕ) → KeepsPrefix (disk_of a.now file) n bytes → n ≤ at → Since (IsWritten a.now file at count) a b
     → Since (OneFile a.now file (BeginsWith n bytes)) a b
 begins_written a b file at count n bytes keeps le ab =
     since_weaker ab (λ m is. begins_left a.now m file (written_at at count (disk_of a.now file)) n bytes (written_keeps (disk_of a.now file) at count n bytes keeps le) is)
 
-pub begins_cut : (a b : History) (file : FileKind) (len n : ℕ) (bytes : List ℕ) → KeepsFront (disk_of a.now file) n bytes → n ≤ len → Since (IsCut a.now file len) a b → Since (OneFile a.now file (BeginsWith n bytes)) a b
+pub begins_cut : (a b : History) (file : FileKind) (len n : ℕ) (bytes : List ℕ) → KeepsPrefix (disk_of a.now file) n bytes → n ≤ len → Since (IsCut a.now file len) a b → Since (OneFile a.now file (BeginsWith n bytes)) a b
 begins_cut a b file len n bytes keeps le ab =
     since_weaker ab (λ m is. begins_left a.now m file (cut_to len (disk_of a.now file)) n bytes (cut_keeps (disk_of a.now file) len n bytes keeps le) is)
 
@@ -119,7 +119,7 @@ pub begins_synced : (a b : History) (file : FileKind) (n : ℕ) (bytes : List �
 begins_synced a b file n bytes le ab = since_weaker ab (λ m is. begins_left a.now m file (settled bytes) n bytes (settled_keeps bytes bytes n le refl) is)
 
 -- a write behind a front, and its sync
-pub begins_writing : (a b : History) (file : FileKind) (at n : ℕ) (new old bytes : List ℕ) → KeepsFront (disk_of a.now file) n bytes → n ≤ at → at ≤ length old → take n old ≡ take n bytes
+pub begins_writing : (a b : History) (file : FileKind) (at n : ℕ) (new old bytes : List ℕ) → KeepsPrefix (disk_of a.now file) n bytes → n ≤ at → at ≤ length old → take n old ≡ take n bytes
     → Since (IsWriting a.now file at new old) a b → Since (OneFile a.now file (BeginsWith n bytes)) a b
 begins_writing a b file at n new old bytes keeps le within same ab =
     let now = overwrite old at new in

@@ -2,14 +2,14 @@
 use Rattle.std.specs.Prelude.{◌≡◌, ◌⊎◌, ℕ, ◌+◌, ◌<◌, ◌≤◌, List, length, take}
 use Rattle.hs_host.specs.declared.file_kind.FileKind.{FileKind}
 use Rattle.hs_host.specs.Files.{Five, of, overwrite}
-use Rattle.hs_host.specs.Fronts.{KeepsFront}
+use Rattle.hs_host.specs.Prefixes.{KeepsPrefix}
 use Rattle.hs_host.specs.Moments.{Moment, History, IsWritten, IsSynced, disk_of}
 use Rattle.hs_gate.specs.declared.gated.Gated.{Gated}
 use Rattle.hs_gate.specs.Groups.{groups_of, and_group}
 
 -- the file up to the gate that ends its groups is on the disk, and no write or cut since has touched it
 abbrev pub IsCalm : History → Five (List ℕ) → Gated → Type 0
-IsCalm h files gated = KeepsFront (disk_of h.now gated.file) (gated.end + 1) (of files gated.file)
+IsCalm h files gated = KeepsPrefix (disk_of h.now gated.file) (gated.end + 1) (of files gated.file)
 
 -- what is left begins with the file up to the gate that ends its groups, and so has the same groups
 pub record IsAsBefore (old : List ℕ) (end : ℕ) (left : List ℕ) : Type 0 where

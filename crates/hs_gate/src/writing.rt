@@ -1,7 +1,7 @@
 // Writes that are brought to the disk.
 ghost use Rattle.std.specs.Prelude.{◌≡◌, ℕ, ◌+◌, ◌^◌, ◌<◌, ◌≤◌, List, [], ◌∷◌, ◌++◌, length, take, IfOk, OnOk, OnErr};
 ghost use Rattle.hs_host.specs.Files.{of, with_, overwrite, IsOpen, IsHonest};
-ghost use Rattle.hs_host.specs.Fronts.{KeepsFront};
+ghost use Rattle.hs_host.specs.Prefixes.{KeepsPrefix};
 ghost use Rattle.hs_host.specs.Moments.{Since, OneFile, IsSynced, disk_of};
 ghost use Rattle.hs_gate.specs.Crash.{IsAny, IsWriting, BeginsWith};
 ghost use Rattle.hs_gate.specs.Faults.{HasGateCause, IsNeverBroken};
@@ -96,7 +96,7 @@ pub fn write_payload<H: Host>(
     requires within { H.tells → IsHonest (H.standing host.old) → at ≤ length (of (H.files host.old) file) }
     ensures ok { H.tells → IsHonest (H.standing host.old) → OnOk result (H.files host.new ≡ with_ (H.files host.old) file (overwrite (of (H.files host.old) file) at (eight_bytes (length payload.now) ++ payload.now ++ 0 ∷ []))) }
     ensures others { H.tells → IsHonest (H.standing host.old) → IsOnly (H.files host.old) file (H.files host.new) }
-    ensures moments { H.tells → IsHonest (H.standing host.old) → KeepsFront (disk_of (H.history host.old).now file) at (of (H.files host.old) file) → Since (OneFile (H.history host.old).now file (BeginsWith at (of (H.files host.old) file))) (H.history host.old) (H.history host.new) }
+    ensures moments { H.tells → IsHonest (H.standing host.old) → KeepsPrefix (disk_of (H.history host.old).now file) at (of (H.files host.old) file) → Since (OneFile (H.history host.old).now file (BeginsWith at (of (H.files host.old) file))) (H.history host.old) (H.history host.new) }
     ensures settled { H.tells → IsHonest (H.standing host.old) → OnOk result (IsSynced (H.history host.old).now file (of (H.files host.new) file) (H.history host.new).now) }
     ensures cause { HasGateCause (H.disk_faults host.old) (H.disk_faults host.new) result }
     ensures whole { IsNeverBroken result }

@@ -1,6 +1,6 @@
 -- How moments pass, call after call.
 use Rattle.std.proofs.Common.{◌≡◌, ◌⊎◌, ℕ, List, [], ◌∷◌, ◌++◌, inl, inr, refl, sym, ◌∙◌, ap, subst, append_assoc, append-nil}
-use Rattle.hs_host.specs.Moments.{Moment, History, Each, Since, IsStill, IsTold}
+use Rattle.hs_host.specs.Moments.{Moment, History, Each, Since, IsStill, IsPrinted}
 
 each_append : (P : Moment → Type 0) (ms ns : List Moment) → Each P ms → Each P ns → Each P (ms ++ ns)
 each_append P [] ns pm pn = pn
@@ -41,20 +41,20 @@ pub still_now : {a b : History} → Since (IsStill a.now) a b → b.now ≡ a.no
 still_now s = elim (since_now s) [ inl is ↦ is | inr is ↦ is ]
 
 -- telling leaves the disk as it was
-pub told_disks : {a b : History} {bytes : List ℕ} → Since (IsTold a.now bytes) a b → b.now.disks ≡ a.now.disks
+pub told_disks : {a b : History} {bytes : List ℕ} → Since (IsPrinted a.now bytes) a b → b.now.disks ≡ a.now.disks
 told_disks s = elim (since_now s) [ inl is ↦ ap (λ (m : Moment). m.disks) is | inr t ↦ t.disks ]
 
--- nothing told is a front of all
-pub told_nothing : (m : Moment) (bytes : List ℕ) → IsTold m bytes m
+-- nothing told is a prefix of all
+pub told_nothing : (m : Moment) (bytes : List ℕ) → IsPrinted m bytes m
 told_nothing m bytes = record { disks = refl; piece = []; rest = bytes; out = sym (append-nil m.out); whole = refl }
 
--- a front of these bytes is one of these and more
-pub told_more : (before m : Moment) (bytes more : List ℕ) → IsTold before bytes m → IsTold before (bytes ++ more) m
+-- a prefix of these bytes is one of these and more
+pub told_more : (before m : Moment) (bytes more : List ℕ) → IsPrinted before bytes m → IsPrinted before (bytes ++ more) m
 told_more before m bytes more t =
     record { disks = t.disks; piece = t.piece; rest = t.rest ++ more; out = t.out; whole = sym (append_assoc t.piece t.rest more) ∙ ap (λ (l : List ℕ). l ++ more) t.whole }
 
 -- what is told behind what was told
-pub told_on : (before mid m : Moment) (piece rest bytes : List ℕ) → mid.disks ≡ before.disks → mid.out ≡ before.out ++ piece → piece ++ rest ≡ bytes → IsTold mid rest m → IsTold before bytes m
+pub told_on : (before mid m : Moment) (piece rest bytes : List ℕ) → mid.disks ≡ before.disks → mid.out ≡ before.out ++ piece → piece ++ rest ≡ bytes → IsPrinted mid rest m → IsPrinted before bytes m
 told_on before mid m piece rest bytes disks out whole t = record {
   disks = t.disks ∙ disks;
   piece = piece ++ t.piece;

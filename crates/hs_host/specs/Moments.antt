@@ -50,8 +50,8 @@ IsCut before file len m = m ≡ with_disk before file (cut_to len (disk_of befor
 abbrev pub IsSynced : Moment → FileKind → List ℕ → Moment → Type 0
 IsSynced before file bytes m = m ≡ with_disk before file (settled bytes)
 
--- the disk is as before, and a front of these bytes is written behind the output
-pub record IsTold (before : Moment) (bytes : List ℕ) (m : Moment) : Type 0 where
+-- the disk is as before, and a prefix of these bytes is written behind the output
+pub record IsPrinted (before : Moment) (bytes : List ℕ) (m : Moment) : Type 0 where
   pub disks : m.disks ≡ before.disks
   pub piece : List ℕ
   pub rest : List ℕ

@@ -5,7 +5,7 @@ ghost use Rattle.hs_host.specs.Files.{Five, of, with_, overwrite, piece, Standin
 ghost use Rattle.hs_host.specs.declared.file_kind.FileKind.{FileKind};
 ghost use Rattle.hs_host.specs.Disk.{Leaves, written_at, cut_to, settled};
 ghost use Rattle.hs_host.specs.Host.{HasCause, HasMountCause, Rose, AddsOutput};
-ghost use Rattle.hs_host.specs.Moments.{History, Moment, Since, IsStill, IsWritten, IsCut, IsSynced, IsTold, disk_of, with_disk};
+ghost use Rattle.hs_host.specs.Moments.{History, Moment, Since, IsStill, IsWritten, IsCut, IsSynced, IsPrinted, disk_of, with_disk};
 
 use crate::file_kind::FileKind;
 use crate::host_fault::HostFault;
@@ -43,7 +43,7 @@ pub trait Host: Source {
     fn write_output(&mut self, bytes: &[u8]) -> Result<usize, HostFault>
         ensures bound { WritesAtMost result bytes.now }
         ensures output { Self.tells → AddsOutput (written self.old) (written self.new) bytes.now result }
-        ensures moments { Self.tells → Since (IsTold (history self.old).now bytes.now) (history self.old) (history self.new) }
+        ensures moments { Self.tells → Since (IsPrinted (history self.old).now bytes.now) (history self.old) (history self.new) }
         ensures none { IfOk result (λ n. n ≡ 0 → 0 < length bytes.now → Rose (output_faults self.old) (output_faults self.new)) }
         ensures cause { HasCause (output_faults self.old) (output_faults self.new) result }
         ensures input { Self.unread self.new ≡ Self.unread self.old }

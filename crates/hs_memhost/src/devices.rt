@@ -28,7 +28,7 @@ pub struct Devices {
 }
 
 impl Devices {
-    ghost use Rattle.hs_host.specs.Moments.{Since, IsWritten, IsCut, IsSynced, IsTold};
+    ghost use Rattle.hs_host.specs.Moments.{Since, IsWritten, IsCut, IsSynced, IsPrinted};
     ghost use Rattle.hs_memhost.specs.Devices.{files_on, history_on};
 
     /// These files, all on the disk, and no output.
@@ -81,7 +81,7 @@ impl Devices {
         ensures ok { OnOk result ((history_on self.new).now.out ≡ (history_on self.old).now.out ++ bytes.now) }
         ensures err { OnErr result (history_on self.new ≡ history_on self.old) }
         ensures memory { IsErrOf result HostFault.Fault → ⊥ }
-        ensures moments { Since (IsTold (history_on self.old).now bytes.now) (history_on self.old) (history_on self.new) }
+        ensures moments { Since (IsPrinted (history_on self.old).now bytes.now) (history_on self.old) (history_on self.new) }
         ensures files { files_on self.new ≡ files_on self.old }
     {
         let kept = copied(self.alloc, bytes)?;

@@ -180,7 +180,7 @@ impl Host for MemHost {
     ghost use Rattle.hs_memhost.specs.Memory.{calls_of, failing_of, files_in, history_in, output_in, standing_in};
     ghost use Rattle.hs_memhost.specs.Files.{contents_of};
     ghost use Rattle.hs_memhost.specs.Left.{may_be_left};
-    ghost use Rattle.hs_host.specs.Moments.{Since, IsStill, IsWritten, IsCut, IsSynced, IsTold};
+    ghost use Rattle.hs_host.specs.Moments.{Since, IsStill, IsWritten, IsCut, IsSynced, IsPrinted};
     ghost use Rattle.hs_memhost.specs.Replay.{still_since};
 
     ghost written = { output_in };
@@ -209,7 +209,7 @@ impl Host for MemHost {
         ensures bound { WritesAtMost result bytes.now }
         ensures output { AddsOutput (output_in self.old) (output_in self.new) bytes.now result }
         ensures none { IfOk result (λ n. n ≡ 0 → 0 < length bytes.now → Rose self.old.output_faults self.new.output_faults) }
-        ensures moments { Since (IsTold (history_in self.old).now bytes.now) (history_in self.old) (history_in self.new) }
+        ensures moments { Since (IsPrinted (history_in self.old).now bytes.now) (history_in self.old) (history_in self.new) }
         ensures cause { HasCause self.old.output_faults self.new.output_faults result }
         ensures no_fault { OnOk result (self.new.output_faults ≡ self.old.output_faults) }
         ensures input { left_of self.new.input ≡ left_of self.old.input }

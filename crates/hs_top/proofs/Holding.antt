@@ -3,8 +3,8 @@ use Rattle.std.proofs.Common.{◌≡◌, ℕ, ◌+◌, ◌<◌, ◌≤◌, true,
 use Rattle.hs_host.specs.declared.file_kind.FileKind.TheVariants.{Log}
 use Rattle.hs_host.specs.Disk.{Pending, Leaves}
 use Rattle.hs_host.specs.Files.{Five, of}
-use Rattle.hs_host.specs.Fronts.{KeepsFront}
-use Rattle.hs_host.specs.Moments.{Moment, History, Since, IsStill, IsTold, disk_of}
+use Rattle.hs_host.specs.Prefixes.{KeepsPrefix}
+use Rattle.hs_host.specs.Moments.{Moment, History, Since, IsStill, IsPrinted, disk_of}
 use Rattle.hs_host.proofs.Passing.{since_weaker, since_join, since_now, told_disks, told_nothing, told_more}
 use Rattle.hs_host.proofs.Torn.{front_stays}
 use Rattle.hs_gate.specs.declared.gated.Gated.{Gated}
@@ -15,19 +15,19 @@ use Rattle.hs_gate.proofs.Fronts.{open_same, epoch_same}
 use Rattle.hs_gate.proofs.Pieces.{take_same}
 use Rattle.hs_gate.proofs.Torn.{as_before}
 use Rattle.hs_top.specs.declared.statement_log.StatementLog.{StatementLog}
-use Rattle.hs_top.specs.Crash.{TellsBehind}
-use Rattle.hs_top.specs.Holding.{Holds, IsHeld, IsGathered, IsTelling, IsLogging, IsStep}
+use Rattle.hs_top.specs.Crash.{AcknowledgesBehind}
+use Rattle.hs_top.specs.Holding.{Holds, IsHeld, IsGathered, IsAcknowledging, IsLogging, IsStep}
 use Rattle.hs_top.specs.Running.{IsLog, IsSound, texts_in}
 use Rattle.hs_entries.specs.declared.item.Item.{Item}
 use Rattle.hs_top.specs.Lines.{opened_line, closed_line}
 use Rattle.hs_top.specs.Machine.{State, step_of}
-use Rattle.hs_top.specs.Told.{TellsAtMost, TellsLines, IsNamed}
-use Rattle.hs_top.proofs.Fronts.{split_front}
-use Rattle.hs_top.proofs.Told.{tells_nothing, fewer, more, opened_tells, closed_tells, step_tells, one_text}
+use Rattle.hs_top.specs.Acknowledged.{AcknowledgesAtMost, AcknowledgesLines, IsNamed}
+use Rattle.hs_top.proofs.Prefixes.{split_front}
+use Rattle.hs_top.proofs.Acknowledged.{tells_nothing, fewer, more, opened_tells, closed_tells, step_tells, one_text}
 
 -- what is told behind what was handed over before is told of the whole
 pub told_through : (before mid m : Moment) (gathered rest whole : List ℕ) → mid.disks ≡ before.disks → mid.out ++ (gathered ++ rest) ≡ before.out ++ whole → length before.out ≤ length mid.out
-    → IsTold mid gathered m → IsTold before whole m
+    → IsPrinted mid gathered m → IsPrinted before whole m
 told_through before mid m gathered rest whole disks left grown t =
     let parts = split_front mid.out (gathered ++ rest) before.out whole left grown in
     record {
@@ -39,8 +39,8 @@ told_through before mid m gathered rest whole disks left grown t =
     }
 
 -- so it is of all moments, by the bytes that were written
-pub told_join : {a b c : History} (old new gathered rest whole : List ℕ) → a.now.out ≡ old → b.now.out ≡ new → Since (IsTold a.now whole) a b → new ++ (gathered ++ rest) ≡ old ++ whole → length old ≤ length new
-    → Since (IsTold b.now gathered) b c → Since (IsTold a.now whole) a c
+pub told_join : {a b c : History} (old new gathered rest whole : List ℕ) → a.now.out ≡ old → b.now.out ≡ new → Since (IsPrinted a.now whole) a b → new ++ (gathered ++ rest) ≡ old ++ whole → length old ≤ length new
+    → Since (IsPrinted b.now gathered) b c → Since (IsPrinted a.now whole) a c
 told_join {a} {b} {c} old new gathered rest whole old_is new_is ab left grown bc =
     since_join ab (since_weaker bc (λ m t.
     told_through a.now b.now m gathered rest whole (told_disks ab)
@@ -48,15 +48,15 @@ told_join {a} {b} {c} old new gathered rest whole old_is new_is ab left grown bc
     (omega (arith, grown, ap length old_is, ap length new_is)) t))
 
 -- and nothing is told while the disk is still
-pub told_still : {a b c : History} (whole : List ℕ) → Since (IsTold a.now whole) a b → Since (IsStill b.now) b c → Since (IsTold a.now whole) a c
+pub told_still : {a b c : History} (whole : List ℕ) → Since (IsPrinted a.now whole) a b → Since (IsStill b.now) b c → Since (IsPrinted a.now whole) a c
 told_still {a} {b} {c} whole ab bc =
-    let at_b : IsTold a.now whole b.now = elim (since_now ab) [ inl is ↦ subst (IsTold a.now whole) (sym is) (told_nothing a.now whole) | inr told ↦ told ] in
-    since_join ab (since_weaker bc (λ m is. subst (IsTold a.now whole) (sym is) at_b))
+    let at_b : IsPrinted a.now whole b.now = elim (since_now ab) [ inl is ↦ subst (IsPrinted a.now whole) (sym is) (told_nothing a.now whole) | inr told ↦ told ] in
+    since_join ab (since_weaker bc (λ m is. subst (IsPrinted a.now whole) (sym is) at_b))
 
 -- with more behind it
-pub told_and : {a b : History} (gathered piece more : List ℕ) → Since (IsTold a.now (gathered ++ piece)) a b → Since (IsTold a.now (gathered ++ (piece ++ more))) a b
+pub told_and : {a b : History} (gathered piece more : List ℕ) → Since (IsPrinted a.now (gathered ++ piece)) a b → Since (IsPrinted a.now (gathered ++ (piece ++ more))) a b
 told_and {a} {b} gathered piece more ab =
-    since_weaker ab (λ m t. subst (λ (l : List ℕ). IsTold a.now l m) (append_assoc gathered piece more) (told_more a.now m (gathered ++ piece) more t))
+    since_weaker ab (λ m t. subst (λ (l : List ℕ). IsPrinted a.now l m) (append_assoc gathered piece more) (told_more a.now m (gathered ++ piece) more t))
 
 -- what is gathered goes on where some of it was handed over
 pub gathered_on : (before old new whole gathered : List ℕ) (commits : ℕ) → new ++ gathered ≡ old ++ whole → length old ≤ length new → IsGathered before old whole commits → IsGathered before new gathered commits
@@ -65,7 +65,7 @@ gathered_on before old new whole gathered commits is grown all =
     record {
       written = all.written ++ parts.0;
       is = parts.1.0 ∙ ap (λ (l : List ℕ). l ++ parts.0) all.is ∙ append_assoc before all.written parts.0;
-      lines = subst (λ (l : List ℕ). TellsLines l commits) (sym (append_assoc all.written parts.0 gathered ∙ ap (λ (l : List ℕ). all.written ++ l) parts.1.1)) all.lines;
+      lines = subst (λ (l : List ℕ). AcknowledgesLines l commits) (sym (append_assoc all.written parts.0 gathered ∙ ap (λ (l : List ℕ). all.written ++ l) parts.1.1)) all.lines;
     }
 
 -- with the lines of a step
@@ -74,13 +74,13 @@ pub gathered_step : (before out gathered : List ℕ) (item : Item) (s : State) �
 gathered_step before out gathered item s named all = record {
   written = all.written;
   is = all.is;
-  lines = subst (λ (l : List ℕ). TellsLines l (step_of item s).next.database.commits) (append_assoc all.written gathered (step_of item s).lines) (step_tells item s named (all.written ++ gathered) all.lines);
+  lines = subst (λ (l : List ℕ). AcknowledgesLines l (step_of item s).next.database.commits) (append_assoc all.written gathered (step_of item s).lines) (step_tells item s named (all.written ++ gathered) all.lines);
 }
 
 -- so it is counted and told where a step is done
 pub telling_step : (least : ℕ) (before : List ℕ) (old new : Five (List ℕ)) (out new_out gathered new_gathered : List ℕ) (item : Item) (s next : State) → IsNamed item → next ≡ (step_of item s).next
     → texts_in new ≡ texts_in old ++ (step_of item s).texts → new_out ++ new_gathered ≡ out ++ (gathered ++ (step_of item s).lines) → length out ≤ length new_out
-    → IsTelling least before old out gathered s.database.commits → IsTelling least before new new_out new_gathered next.database.commits
+    → IsAcknowledging least before old out gathered s.database.commits → IsAcknowledging least before new new_out new_gathered next.database.commits
 telling_step least before old new out new_out gathered new_gathered item s next named done texts whole grown t =
     let commits : next.database.commits ≡ (step_of item s).next.database.commits = ap (λ (n : State). n.database.commits) done in
     let count = length-append (texts_in old) (step_of item s).texts in
@@ -93,7 +93,7 @@ telling_step least before old new out new_out gathered new_gathered item s next 
 
 -- and where output is handed over
 pub telling_handed : (least : ℕ) (before : List ℕ) (old new : Five (List ℕ)) (out new_out gathered new_gathered : List ℕ) (commits : ℕ) → new ≡ old → new_out ++ new_gathered ≡ out ++ gathered → length out ≤ length new_out
-    → IsTelling least before old out gathered commits → IsTelling least before new new_out new_gathered commits
+    → IsAcknowledging least before old out gathered commits → IsAcknowledging least before new new_out new_gathered commits
 telling_handed least before old new out new_out gathered new_gathered commits same whole grown t = record {
   enough = omega (arith, t.enough, ap (λ (f : Five (List ℕ)). length (texts_in f)) same);
   counted = t.counted ∙ ap (λ (f : Five (List ℕ)). length (texts_in f)) (sym same);
@@ -105,7 +105,7 @@ pub first_gathered : (out gathered : List ℕ) (opened commits : ℕ) → gather
 first_gathered out gathered opened commits is = record {
   written = [];
   is = sym (append-nil out);
-  lines = subst (λ (l : List ℕ). TellsLines l commits) (sym is) (opened_tells [] commits opened (record { told = tells_nothing commits; ends = inl refl }));
+  lines = subst (λ (l : List ℕ). AcknowledgesLines l commits) (sym is) (opened_tells [] commits opened (record { told = tells_nothing commits; ends = inl refl }));
 }
 
 -- and so does the last one
@@ -113,14 +113,14 @@ pub last_gathered : (before out old new : List ℕ) (closed commits : ℕ) → n
 last_gathered before out old new closed commits is all = record {
   written = all.written;
   is = all.is;
-  lines = subst (λ (l : List ℕ). TellsLines l commits) (append_assoc all.written old (closed_line closed) ∙ ap (λ (l : List ℕ). all.written ++ l) (sym is)) (closed_tells (all.written ++ old) commits closed all.lines);
+  lines = subst (λ (l : List ℕ). AcknowledgesLines l commits) (append_assoc all.written old (closed_line closed) ∙ ap (λ (l : List ℕ). all.written ++ l) (sym is)) (closed_tells (all.written ++ old) commits closed all.lines);
 }
 
 -- telling leaves the log calm
-pub calm_told : {a b : History} {bytes : List ℕ} (old new : Five (List ℕ)) (gated : Gated) → Since (IsTold a.now bytes) a b → new ≡ old → IsCalm a old gated → IsCalm b new gated
+pub calm_told : {a b : History} {bytes : List ℕ} (old new : Five (List ℕ)) (gated : Gated) → Since (IsPrinted a.now bytes) a b → new ≡ old → IsCalm a old gated → IsCalm b new gated
 calm_told {a} {b} {bytes} old new gated s same calm =
-    subst (λ (f : Five (List ℕ)). KeepsFront (disk_of b.now gated.file) (gated.end + 1) (of f gated.file)) (sym same)
-    (subst (λ (d : Five Pending). KeepsFront (of d gated.file) (gated.end + 1) (of old gated.file)) (sym (told_disks s)) calm)
+    subst (λ (f : Five (List ℕ)). KeepsPrefix (disk_of b.now gated.file) (gated.end + 1) (of f gated.file)) (sym same)
+    (subst (λ (d : Five Pending). KeepsPrefix (of d gated.file) (gated.end + 1) (of old gated.file)) (sym (told_disks s)) calm)
 
 pub born_same : (left old : List ℕ) (end : ℕ) → 10 ≤ end → end < length left → take end left ≡ take end old → is_born old ≡ true → is_born left ≡ true
 born_same left old end far long same born =
@@ -143,7 +143,7 @@ module _ (files : Five (List ℕ)) (log : StatementLog) (sound : IsSound log) (i
 
   -- it begins as before, and has these groups
   pub holds_of : (left : List ℕ) (payloads all rest : List (List ℕ)) → log.gated.end < length left → take log.gated.end left ≡ take log.gated.end files.log
-      → (groups_of left).payloads ≡ payloads → (groups_of left).is_broken ≡ false → least ≤ length payloads → payloads ++ rest ≡ all → TellsBehind before out (length payloads)
+      → (groups_of left).payloads ≡ payloads → (groups_of left).is_broken ≡ false → least ≤ length payloads → payloads ++ rest ≡ all → AcknowledgesBehind before out (length payloads)
       → Holds least all before out left
   unfolding far old_open
   holds_of left payloads all rest long same groups whole enough texts told =
@@ -156,22 +156,22 @@ module _ (files : Five (List ℕ)) (log : StatementLog) (sound : IsSound log) (i
         enough = omega (arith, enough, ap length groups);
         rest = rest;
         texts = ap (λ (l : List (List ℕ)). l ++ rest) groups ∙ texts;
-        told = subst (λ (n : ℕ). TellsBehind before out n) (sym (ap length groups)) told;
+        told = subst (λ (n : ℕ). AcknowledgesBehind before out n) (sym (ap length groups)) told;
       }
 
--- a front of what was gathered tells of no more
-told_behind : (before : List ℕ) (mid m : Moment) (gathered : List ℕ) (commits : ℕ) → IsGathered before mid.out gathered commits → IsTold mid gathered m → TellsBehind before m.out commits
+-- a prefix of what was gathered tells of no more
+told_behind : (before : List ℕ) (mid m : Moment) (gathered : List ℕ) (commits : ℕ) → IsGathered before mid.out gathered commits → IsPrinted mid gathered m → AcknowledgesBehind before m.out commits
 told_behind before mid m gathered commits all t = record {
   written = all.written ++ t.piece;
   is = t.out ∙ ap (λ (l : List ℕ). l ++ t.piece) all.is ∙ append_assoc before all.written t.piece;
   told = fewer (all.written ++ t.piece) t.rest commits
-      (subst (λ (l : List ℕ). TellsAtMost l commits)
+      (subst (λ (l : List ℕ). AcknowledgesAtMost l commits)
       (ap (λ (l : List ℕ). all.written ++ l) (sym t.whole) ∙ sym (append_assoc all.written t.piece t.rest))
       all.lines.told);
 }
 
 -- nothing more is told than is gathered
-told_so_far : (before out gathered : List ℕ) (commits : ℕ) → IsGathered before out gathered commits → TellsBehind before out commits
+told_so_far : (before out gathered : List ℕ) (commits : ℕ) → IsGathered before out gathered commits → AcknowledgesBehind before out commits
 told_so_far before out gathered commits all = record { written = all.written; is = all.is; told = fewer all.written gathered commits all.lines.told }
 
 module _ (files : Five (List ℕ)) (h : History) (log : StatementLog) (sound : IsSound log) (is : IsLog files log) (calm : IsCalm h files log.gated) (least : ℕ) (before : List ℕ) (commits : ℕ) (enough : least ≤ length (texts_in files)) (counted : commits ≡ length (texts_in files)) where
@@ -179,7 +179,7 @@ module _ (files : Five (List ℕ)) (h : History) (log : StatementLog) (sound : I
   log_disk = ap (disk_of h.now) sound.file
 
   -- while output is handed over
-  pub held_telling : (gathered : List ℕ) (rest : List (List ℕ)) (m : Moment) → IsGathered before h.now.out gathered commits → IsTold h.now gathered m → IsHeld least (texts_in files ++ rest) before m
+  pub held_telling : (gathered : List ℕ) (rest : List (List ℕ)) (m : Moment) → IsGathered before h.now.out gathered commits → IsPrinted h.now gathered m → IsHeld least (texts_in files ++ rest) before m
   unfolding log_disk
   held_telling gathered rest m all t left leaves =
       let stays = front_stays (disk_of h.now log.gated.file) (log.gated.end + 1) (of files log.gated.file) left calm
@@ -189,7 +189,7 @@ module _ (files : Five (List ℕ)) (h : History) (log : StatementLog) (sound : I
       (begins.front ∙ ap (λ (l : List ℕ). take log.gated.end l) (ap (of files) sound.file))
       (ap (λ (g : Groups). g.payloads) (begins.groups ∙ ap groups_of (ap (of files) sound.file)))
       (ap (λ (g : Groups). g.is_broken) begins.groups ∙ is.rest.stands.whole)
-      enough refl (subst (TellsBehind before m.out) counted (told_behind before h.now m gathered commits all t))
+      enough refl (subst (AcknowledgesBehind before m.out) counted (told_behind before h.now m gathered commits all t))
 
   -- while a text is logged
   pub held_logging : (gathered : List ℕ) (texts rest : List (List ℕ)) (m : Moment) → IsGathered before h.now.out gathered commits → IsLogging h.now files.log log.gated.end texts m → IsHeld least (texts_in files ++ (texts ++ rest)) before m
@@ -198,7 +198,7 @@ module _ (files : Five (List ℕ)) (h : History) (log : StatementLog) (sound : I
       let either = l.file.each left (subst (λ (p : Pending). Leaves p left) disk_is leaves) in
       let out : m.out ≡ h.now.out = ap (λ (x : Moment). x.out) l.file.is in
       let whole : (groups_of files.log).is_broken ≡ false = subst (λ (bytes : List ℕ). (groups_of bytes).is_broken ≡ false) (ap (of files) sound.file) is.rest.stands.whole in
-      let told = subst (λ (o : List ℕ). TellsBehind before o (length (texts_in files))) (sym out) (subst (TellsBehind before h.now.out) counted (told_so_far before h.now.out gathered commits all)) in
+      let told = subst (λ (o : List ℕ). AcknowledgesBehind before o (length (texts_in files))) (sym out) (subst (AcknowledgesBehind before h.now.out) counted (told_so_far before h.now.out gathered commits all)) in
       elim either.groups [
         | inl same ↦ holds_of files log sound is least before m.out left (texts_in files) (texts_in files ++ (texts ++ rest)) (texts ++ rest) either.long either.front
             (ap (λ (g : Groups). g.payloads) same) (ap (λ (g : Groups). g.is_broken) same ∙ whole) enough refl told

@@ -3,7 +3,7 @@ pub mod Committed
 pub mod Digits
 pub mod Endings
 pub mod Entries
-pub mod Fronts
+pub mod Prefixes
 pub mod Listed
 pub mod Holding
 pub mod Lists
@@ -21,5 +21,5 @@ pub mod Runs
 pub mod Spelled
 pub mod Tables
 pub mod Taken
-pub mod Told
+pub mod Acknowledged
 pub mod Turns

@@ -5,7 +5,7 @@ use Rattle.hs_host.specs.declared.file_kind.FileKind.{FileKind}
 use Rattle.hs_host.specs.declared.file_kind.FileKind.TheVariants.{Log}
 use Rattle.hs_host.specs.Disk.{Pending, Leaves, settled}
 use Rattle.hs_host.specs.Files.{Five, of}
-use Rattle.hs_host.specs.Fronts.{KeepsFront}
+use Rattle.hs_host.specs.Prefixes.{KeepsPrefix}
 use Rattle.hs_host.specs.Moments.{Moment, History, Since, OneFile, IsStill, disk_of}
 use Rattle.hs_host.proofs.Passing.{since_weaker, since_join, still_now}
 use Rattle.hs_gate.specs.declared.gated.Front.{Front}
@@ -56,7 +56,7 @@ settled_calm old files a b gated file same quiet ab front =
     ∙ ap (λ (f : Five (List ℕ)). settled f.log) (sym same)
     ∙ ap (λ (k : FileKind). settled (of files k)) (sym file) in
     let within : gated.end < length bytes = end_within files gated front in
-    subst (λ (p : Pending). KeepsFront p (gated.end + 1) bytes) (sym disk) (settled_keeps bytes bytes (gated.end + 1) (omega (arith, within)) refl)
+    subst (λ (p : Pending). KeepsPrefix p (gated.end + 1) bytes) (sym disk) (settled_keeps bytes bytes (gated.end + 1) (omega (arith, within)) refl)
 
 settle_at : (old files : Five (List ℕ)) (first before m : Moment) (gated : Gated) → gated.file ≡ Log → files ≡ old → is_born old.log ≡ true → before ≡ first → IsGated files gated
     → OneFile before gated.file (IsAsBefore (of files gated.file) gated.end) m → IsOpening old.log first.out m

@@ -20,7 +20,7 @@ use Rattle.hs_top.specs.CommitText.{commit_text, commit_of, IsSession, IsChange}
 use Rattle.hs_top.specs.Database.{Outcome, executed, performed, created, inserted, selected, refused, committed, with_row, table_of, first_repeated}
 use Rattle.hs_top.specs.Machine.{State, Step, machine, step_of, entered, did, is_commit, turn, steps, texts, texts_of}
 use Rattle.hs_top.specs.Opening.{Opened, nothing_logged, redone, replayed, if_made, unless_broken, opened_of, texts_at, texts_from, begun_with, opened_at, ended_with, IsWholeLog}
-use Rattle.hs_top.specs.Sessions.{Joined, number_from, number_in, made, joined}
+use Rattle.hs_top.specs.Sessions.{Admitted, number_from, number_in, made, admitted}
 use Rattle.hs_top.proofs.Numerals.{bind_some}
 use Rattle.hs_top.proofs.Committed.{commit_back, commit_lawful}
 use Rattle.hs_top.proofs.Spelled.{statement_spelled}
@@ -128,12 +128,12 @@ number_within (n ∷ ns) k name m is = either (bytes_eq n name) (number_within n
     either true rest e = let same = same_Some k m e in (omega (arith, same), omega (arith, same))
     either false rest e = let more = rest e in (omega (arith, more.0), omega (arith, more.1))
 
-record Fits (j : Joined) : Type 0 where
+record Fits (j : Admitted) : Type 0 where
   number : IsSession j.number
   few : length j.sessions ≤ 64
 
-joined_fits : (name : List ℕ) (sessions : List (List ℕ)) (j : Joined) → length sessions ≤ 64 → joined name sessions ≡ Some j → Fits j
-joined_fits name sessions j few is = found (number_in name sessions) refl is
+admitted_fits : (name : List ℕ) (sessions : List (List ℕ)) (j : Admitted) → length sessions ≤ 64 → admitted name sessions ≡ Some j → Fits j
+admitted_fits name sessions j few is = found (number_in name sessions) refl is
   where
     found : (there : Option ℕ) → number_in name sessions ≡ there → elim there [ Some number ↦ Some (record { number = number; sessions = sessions }) | None ↦ made name sessions ] ≡ Some j → Fits j
     found (Some number) at e =
@@ -157,7 +157,7 @@ kept_last : (c : Bool) (n : ℕ) (last : Option ℕ) → IsSession n → IfSome 
 kept_last true n last session before = session
 kept_last false n last session before = before
 
-did_remade : (number : ℕ) (name : List ℕ) (j : Joined) (text : List ℕ) (st : Option Statement) (s : State) → statement_of text ≡ st → IsFit s → Fits j → IsRemade s (did number name j st s (performed s.database st))
+did_remade : (number : ℕ) (name : List ℕ) (j : Admitted) (text : List ℕ) (st : Option Statement) (s : State) → statement_of text ≡ st → IsFit s → Fits j → IsRemade s (did number name j st s (performed s.database st))
 did_remade number name j text None s is fit fits = (refl, record { few = fits.few; last = fit.last })
 did_remade number name j text (Some st) s is fit fits =
     let out = executed s.database st in (
@@ -171,11 +171,11 @@ step_remade : (item : Item) (s : State) → IsFit s → IsRemade s (step_of item
 step_remade (Bad n) s fit = (refl, fit)
 step_remade (TooLong n) s fit = (refl, fit)
 step_remade End s fit = (refl, fit)
-step_remade (Entry n name text at) s fit = entry (joined name s.sessions) refl
+step_remade (Entry n name text at) s fit = entry (admitted name s.sessions) refl
   where
-    entry : (j : Option Joined) → joined name s.sessions ≡ j → IsRemade s (entered n name (statement_of text) s j)
+    entry : (j : Option Admitted) → admitted name s.sessions ≡ j → IsRemade s (entered n name (statement_of text) s j)
     entry None is = (refl, fit)
-    entry (Some j) is = did_remade n name j text (statement_of text) s refl fit (joined_fits name s.sessions j fit.few is)
+    entry (Some j) is = did_remade n name j text (statement_of text) s refl fit (admitted_fits name s.sessions j fit.few is)
 
 -- and so do the turns of a run
 pub after_turns_remade : (n : ℕ) (items : List Item) (s : State) → IsFit s → replayed (opened_at s) (texts n (machine items s)) ≡ Ok (opened_at (steps n (machine items s)).state)

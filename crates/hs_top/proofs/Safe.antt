@@ -1,4 +1,4 @@
--- That a log with a front of a run's texts gives what some turns of the run made.
+-- That a log with a prefix of a run's texts gives what some turns of the run made.
 use Rattle.std.proofs.Common.{◌≡◌, ◌⊎◌, ℕ, suc, Bool, true, false, cond, List, [], ◌∷◌, ◌++◌, length, Option, Some, None, Ok, inl, inr, refl, sym, ap, subst, ◌∙◌, arith, append-nil}
 use Rattle.hs_entries.specs.declared.item.Item.{Item}
 use Rattle.hs_entries.specs.declared.item.Item.TheVariants.{Entry, Bad, TooLong, End}
@@ -11,17 +11,17 @@ use Rattle.hs_host.proofs.Passing.{since_none, since_now}
 use Rattle.hs_top.specs.declared.reply.Reply.{Reply}
 use Rattle.hs_top.specs.declared.status.Status.{Status}
 use Rattle.hs_top.specs.declared.statement.Statement.{Statement}
-use Rattle.hs_top.specs.Crash.{Survives, IsSafe, IsSafeFromOpening, HasLog, IsOpening, TellsBehind, opened_after}
+use Rattle.hs_top.specs.Crash.{Survives, IsSafe, IsSafeFromOpening, HasLog, IsOpening, AcknowledgesBehind, opened_after}
 use Rattle.hs_top.specs.Database.{performed}
 use Rattle.hs_top.specs.Holding.{Holds, IsHeld}
 use Rattle.hs_top.specs.CommitText.{commit_text}
 use Rattle.hs_top.specs.Machine.{State, machine, step_of, entered, logged, is_commit, turn, steps, texts, texts_of}
 use Rattle.hs_top.specs.Opening.{Opened, nothing_logged, replayed, opened_of, texts_at, texts_from, begun_with}
 use Rattle.hs_top.specs.Running.{has_opened}
-use Rattle.hs_top.specs.Sessions.{Joined, joined}
+use Rattle.hs_top.specs.Sessions.{Admitted, admitted}
 use Rattle.hs_top.specs.Statement.{statement_of}
-use Rattle.hs_top.proofs.Fronts.{split_front}
-use Rattle.hs_top.proofs.Told.{tells_nothing}
+use Rattle.hs_top.proofs.Prefixes.{split_front}
+use Rattle.hs_top.proofs.Acknowledged.{tells_nothing}
 use Rattle.hs_top.proofs.Reopened.{replayed_on, old_gives, last_session, after_turns_remade, commits_of_texts}
 
 -- a step logs one text or none
@@ -38,19 +38,19 @@ unfolding IsFew
 few_logged last session None reply = inl refl
 few_logged last session (Some statement) reply = few_if (is_commit reply) (commit_text last session statement)
 
-few_entered : (number : ℕ) (name : List ℕ) (statement : Option Statement) (s : State) (j : Option Joined) → IsFew (entered number name statement s j).texts
+few_entered : (number : ℕ) (name : List ℕ) (statement : Option Statement) (s : State) (j : Option Admitted) → IsFew (entered number name statement s j).texts
 unfolding IsFew
 few_entered number name statement s None = inl refl
 few_entered number name statement s (Some j) = few_logged s.last j.number statement (performed s.database statement).reply
 
 few_texts : (item : Item) (s : State) → IsFew (step_of item s).texts
 unfolding IsFew
-few_texts (Entry number name text at) s = few_entered number name (statement_of text) s (joined name s.sessions)
+few_texts (Entry number name text at) s = few_entered number name (statement_of text) s (admitted name s.sessions)
 few_texts (Bad number) s = inl refl
 few_texts (TooLong number) s = inl refl
 few_texts End s = inl refl
 
--- a front of the texts of a run are the texts of its first turns
+-- a prefix of the texts of a run are the texts of its first turns
 pub front_of_texts : (items : List Item) (s : State) (front rest : List (List ℕ)) → front ++ rest ≡ texts_of (machine items s) → (n : ℕ) × (front ≡ texts n (machine items s))
 unfolding texts_of texts turn IsFew
 front_of_texts [] s [] rest is = (0, refl)
@@ -87,7 +87,7 @@ survives old opened input before out log is held =
     record {
       turns = made.0;
       reopens = grind (arith, held.born, held.opened, held.epoch, held.whole, replays);
-      told = subst (TellsBehind before out) (let count : length payloads ≡ (opened_after made.0 opened input).database.commits = omega (arith, commits_of_texts payloads nothing_logged (opened_after made.0 opened input) replays) in count) held.told;
+      told = subst (AcknowledgesBehind before out) (let count : length payloads ≡ (opened_after made.0 opened input).database.commits = omega (arith, commits_of_texts payloads nothing_logged (opened_after made.0 opened input) replays) in count) held.told;
     }
 
 pub safe : (old : List ℕ) (opened : Opened) (input before : List ℕ) (m : Moment) → opened_of old ≡ Ok opened

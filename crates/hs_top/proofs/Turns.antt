@@ -1,7 +1,7 @@
 -- What a turn writes, put together from its parts.
 use Rattle.std.proofs.Common.{◌≡◌, ℕ, ◌≤◌, List, ◌++◌, length, sym, ◌∙◌, ap, append_assoc}
-use Rattle.hs_top.specs.Machine.{WritesFront}
-use Rattle.hs_top.proofs.Fronts.{front_on}
+use Rattle.hs_top.specs.Machine.{WritesPrefix}
+use Rattle.hs_top.proofs.Prefixes.{front_on}
 
 -- input is read, lines are gathered, and what is left goes on behind them
 pub turned : (w0 p0 w1 p1 w2 p2 line r0 r2 : List ℕ) → w1 ++ p1 ≡ w0 ++ p0 → w2 ++ p2 ≡ w1 ++ (p1 ++ line) → r0 ≡ line ++ r2 → w2 ++ (p2 ++ r2) ≡ w0 ++ (p0 ++ r0)
@@ -13,7 +13,7 @@ turned w0 p0 w1 p1 w2 p2 line r0 r2 read answered goes_on =
         ap (λ (l : List ℕ). w1 ++ l) (append_assoc p1 line r2) ∙ sym (append_assoc w1 p1 (line ++ r2)) ∙ ap (λ (l : List ℕ). l ++ (line ++ r2)) read ∙ append_assoc w0 p0 (line ++ r2) ∙ sym (ap (λ (l : List ℕ). w0 ++ (p0 ++ l)) goes_on)
 
 -- the same where the lines were written in part
-pub turning : (w0 p0 w1 p1 w2 line r0 r2 : List ℕ) → w1 ++ p1 ≡ w0 ++ p0 → length w0 ≤ length w1 → WritesFront w1 w2 (p1 ++ line) → r0 ≡ line ++ r2 → WritesFront w0 w2 (p0 ++ r0)
+pub turning : (w0 p0 w1 p1 w2 line r0 r2 : List ℕ) → w1 ++ p1 ≡ w0 ++ p0 → length w0 ≤ length w1 → WritesPrefix w1 w2 (p1 ++ line) → r0 ≡ line ++ r2 → WritesPrefix w0 w2 (p0 ++ r0)
 turning w0 p0 w1 p1 w2 line r0 r2 read grown front goes_on = front_on w0 w1 w2 (p1 ++ line) r2 (p0 ++ r0)
     (ap (λ (l : List ℕ). w1 ++ l) (append_assoc p1 line r2) ∙ sym (append_assoc w1 p1 (line ++ r2)) ∙ ap (λ (l : List ℕ). l ++ (line ++ r2)) read ∙ append_assoc w0 p0 (line ++ r2) ∙ sym (ap (λ (l : List ℕ). w0 ++ (p0 ++ l)) goes_on))
     grown front
@@ -22,8 +22,8 @@ turning w0 p0 w1 p1 w2 line r0 r2 read grown front goes_on = front_on w0 w1 w2 (
 pub read_on : (w0 p0 w1 p1 r0 r1 : List ℕ) → w1 ++ p1 ≡ w0 ++ p0 → r1 ≡ r0 → w1 ++ (p1 ++ r1) ≡ w0 ++ (p0 ++ r0)
 read_on w0 p0 w1 p1 r0 r1 read same = sym (append_assoc w1 p1 r1) ∙ ap (λ (l : List ℕ). l ++ r1) read ∙ append_assoc w0 p0 r1 ∙ ap (λ (l : List ℕ). w0 ++ (p0 ++ l)) same
 
--- a front of what is gathered
-pub front_behind : (old new piece more : List ℕ) → WritesFront old new piece → WritesFront old new (piece ++ more)
+-- a prefix of what is gathered
+pub front_behind : (old new piece more : List ℕ) → WritesPrefix old new piece → WritesPrefix old new (piece ++ more)
 front_behind old new piece more front = record {
   rest = front.rest ++ more;
   is = sym (append_assoc new front.rest more) ∙ ap (λ (l : List ℕ). l ++ more) front.is ∙ append_assoc old piece more;

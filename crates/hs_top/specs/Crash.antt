@@ -9,24 +9,24 @@ use Rattle.hs_top.specs.declared.status.Status.{Status}
 use Rattle.hs_top.specs.Machine.{machine, steps}
 use Rattle.hs_top.specs.Opening.{Opened, opened_of, opened_at, begun_with}
 use Rattle.hs_top.specs.Running.{has_opened}
-use Rattle.hs_top.specs.Told.{TellsAtMost}
+use Rattle.hs_top.specs.Acknowledged.{AcknowledgesAtMost}
 
 -- what a log gives that has all commits of the first so many turns of a run
 abbrev pub opened_after : ℕ → Opened → List ℕ → Opened
 opened_after turns opened input = opened_at (steps turns (machine (items 1 input) (begun_with opened))).state
 
 -- what was written behind an output tells of no later commit than this one
-pub record TellsBehind (before out : List ℕ) (most : ℕ) : Type 0 where
+pub record AcknowledgesBehind (before out : List ℕ) (most : ℕ) : Type 0 where
   pub written : List ℕ
   pub is : out ≡ before ++ written
-  pub told : TellsAtMost written most
+  pub told : AcknowledgesAtMost written most
 
 -- The next run over these bytes of a log begins with what this one had made after some number of its turns, and no later
 -- commit was told of.
 pub record Survives (opened : Opened) (input before out log : List ℕ) : Type 0 where
   pub turns : ℕ
   pub reopens : opened_of log ≡ Ok (opened_after turns opened input)
-  pub told : TellsBehind before out (opened_after turns opened input).database.commits
+  pub told : AcknowledgesBehind before out (opened_after turns opened input).database.commits
 
 -- so it is whatever a crash at this moment leaves of the log
 abbrev pub IsSafe : Opened → List ℕ → List ℕ → Moment → Type 0

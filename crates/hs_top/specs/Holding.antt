@@ -4,13 +4,13 @@ use Rattle.hs_gate.specs.Crash.{IsBeforeOrAfter}
 use Rattle.hs_gate.specs.Groups.{is_born, is_open, epoch_of, groups_of}
 use Rattle.hs_host.specs.Disk.{Leaves}
 use Rattle.hs_host.specs.Files.{Five}
-use Rattle.hs_host.specs.Moments.{Moment, OneFile, IsTold, disk_of}
+use Rattle.hs_host.specs.Moments.{Moment, OneFile, IsPrinted, disk_of}
 use Rattle.hs_host.specs.declared.file_kind.FileKind.TheVariants.{Log}
-use Rattle.hs_top.specs.Crash.{TellsBehind}
+use Rattle.hs_top.specs.Crash.{AcknowledgesBehind}
 use Rattle.hs_top.specs.Running.{texts_in}
-use Rattle.hs_top.specs.Told.{TellsLines}
+use Rattle.hs_top.specs.Acknowledged.{AcknowledgesLines}
 
--- A log has so many commits at least, their texts are a front of these, and no later commit was told of.
+-- A log has so many commits at least, their texts are a prefix of these, and no later commit was told of.
 pub record Holds (least : ℕ) (all : List (List ℕ)) (before out log : List ℕ) : Type 0 where
   pub born : is_born log ≡ true
   pub opened : is_open log ≡ true
@@ -19,7 +19,7 @@ pub record Holds (least : ℕ) (all : List (List ℕ)) (before out log : List �
   pub enough : least ≤ length (groups_of log).payloads
   pub rest : List (List ℕ)
   pub texts : (groups_of log).payloads ++ rest ≡ all
-  pub told : TellsBehind before out (length (groups_of log).payloads)
+  pub told : AcknowledgesBehind before out (length (groups_of log).payloads)
 
 -- so it is whatever a crash at this moment leaves of the log
 abbrev pub IsHeld : ℕ → List (List ℕ) → List ℕ → Moment → Type 0
@@ -29,7 +29,7 @@ IsHeld least all before m = (log : List ℕ) → Leaves (disk_of m Log) log → 
 pub record IsGathered (before out gathered : List ℕ) (commits : ℕ) : Type 0 where
   pub written : List ℕ
   pub is : out ≡ before ++ written
-  pub lines : TellsLines (written ++ gathered) commits
+  pub lines : AcknowledgesLines (written ++ gathered) commits
 
 -- A text is being logged: what a crash leaves of the log is as before, or has it too.
 pub record IsLogging (before : Moment) (log : List ℕ) (end : ℕ) (texts : List (List ℕ)) (m : Moment) : Type 0 where
@@ -39,10 +39,10 @@ pub record IsLogging (before : Moment) (log : List ℕ) (end : ℕ) (texts : Lis
 
 -- what is gathered is handed over where nothing is logged, or a text is being logged
 abbrev pub IsStep : Moment → List ℕ → List ℕ → ℕ → List (List ℕ) → Moment → Type 0
-IsStep before gathered log end texts m = ((texts ≡ []) × IsTold before gathered m) ⊎ IsLogging before log end texts m
+IsStep before gathered log end texts m = ((texts ≡ []) × IsPrinted before gathered m) ⊎ IsLogging before log end texts m
 
 -- A log has at least so many commits, of which no more were told behind an output, with what is gathered.
-pub record IsTelling (least : ℕ) (before : List ℕ) (files : Five (List ℕ)) (out output : List ℕ) (commits : ℕ) : Type 0 where
+pub record IsAcknowledging (least : ℕ) (before : List ℕ) (files : Five (List ℕ)) (out output : List ℕ) (commits : ℕ) : Type 0 where
   pub enough : least ≤ length (texts_in files)
   pub counted : commits ≡ length (texts_in files)
   pub gathered : IsGathered before out output commits

@@ -12,4 +12,4 @@ pub mod Sessions
 pub mod Spelling
 pub mod Statement
 pub mod Status
-pub mod Told
+pub mod Acknowledged

@@ -12,7 +12,7 @@ use Rattle.hs_top.specs.declared.refusal.Refusal.TheVariants.{TooLong, Entry, Se
 use Rattle.hs_top.specs.declared.reply.Reply.{Reply}
 use Rattle.hs_top.specs.declared.reply.Reply.TheVariants.{Done, Refused}
 use Rattle.hs_top.specs.Database.{performed, Outcome}
-use Rattle.hs_top.specs.Sessions.{Joined, joined}
+use Rattle.hs_top.specs.Sessions.{Admitted, admitted}
 use Rattle.hs_top.specs.Lines.{outcome_lines, reply_line, opened_line, closed_line, no_session}
 
 -- The names of the sessions so far, the session of the last commit that was logged, and the database.
@@ -52,7 +52,7 @@ abbrev pub last_after : Option ℕ → ℕ → Reply → Option ℕ
 last_after last session reply = if is_commit reply then Some session else last
 
 -- a statement of a session did this
-abbrev pub did : ℕ → List ℕ → Joined → Option Statement → State → Outcome → Step
+abbrev pub did : ℕ → List ℕ → Admitted → Option Statement → State → Outcome → Step
 did number name session statement s outcome = record {
   lines = outcome_lines number name outcome;
   texts = logged s.last session.number statement outcome.reply;
@@ -63,13 +63,13 @@ did number name session statement s outcome = record {
   };
 }
 
-abbrev pub entered : ℕ → List ℕ → Option Statement → State → Option Joined → Step
+abbrev pub entered : ℕ → List ℕ → Option Statement → State → Option Admitted → Step
 entered number name statement s None = refusing number name Sessions s
 entered number name statement s (Some session) = did number name session statement s (performed s.database statement)
 
 -- what an item does
 abbrev pub step_of : Item → State → Step
-step_of (item.Entry number name text at) s = entered number name (statement_of text) s (joined name s.sessions)
+step_of (item.Entry number name text at) s = entered number name (statement_of text) s (admitted name s.sessions)
 step_of (item.Bad number) s = refusing number no_session Entry s
 step_of (item.TooLong number) s = refusing number no_session TooLong s
 step_of item.End s = record { lines = []; texts = []; next = s }
@@ -144,8 +144,8 @@ transcript s input = opened_line s.database.commits ++ rest_of (machine (items 1
 abbrev pub transcript_within : ℕ → State → List ℕ → List ℕ
 transcript_within limit s input = opened_line s.database.commits ++ lines_of (machine (whole_items 1 (take limit input)) s)
 
--- what was written since is a front of these bytes
-pub record WritesFront (old new whole : List ℕ) : Type 0 where
+-- what was written since is a prefix of these bytes
+pub record WritesPrefix (old new whole : List ℕ) : Type 0 where
   pub rest : List ℕ
   pub is : new ++ rest ≡ old ++ whole
   pub grown : length old ≤ length new

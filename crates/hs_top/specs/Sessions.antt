@@ -13,18 +13,18 @@ abbrev pub number_in : List ℕ → List (List ℕ) → Option ℕ
 number_in name sessions = number_from 1 name sessions
 
 -- a session's number, and all sessions
-pub record Joined : Type 0 where
+pub record Admitted : Type 0 where
   pub number : ℕ
   pub sessions : List (List ℕ)
 
 -- The session of an entry among those so far, by its name. A new name makes one, as long as there is room.
-abbrev pub made : List ℕ → List (List ℕ) → Option Joined
+abbrev pub made : List ℕ → List (List ℕ) → Option Admitted
 made name sessions =
     if nat_lt (length sessions) MOST_SESSIONS then Some (record { number = length sessions + 1; sessions = sessions ++ name ∷ [] })
     else None
 
-abbrev pub joined : List ℕ → List (List ℕ) → Option Joined
-joined name sessions = elim (number_in name sessions) [
+abbrev pub admitted : List ℕ → List (List ℕ) → Option Admitted
+admitted name sessions = elim (number_in name sessions) [
   | Some number ↦ Some (record { number = number; sessions = sessions })
   | None ↦ made name sessions
 ]

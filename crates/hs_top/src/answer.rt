@@ -3,20 +3,20 @@ ghost use Rattle.std.specs.Prelude.{◌≡◌, ◌⊎◌, ℕ, ◌+◌, ◌<◌,
 ghost use Rattle.hs_host.specs.Host.{Rose};
 ghost use Rattle.hs_gate.specs.Crash.{IsCalm};
 ghost use Rattle.hs_host.specs.Files.{IsOpen, IsHonest};
-ghost use Rattle.hs_host.specs.Moments.{Since, IsTold};
-ghost use Rattle.hs_top.specs.Holding.{IsHeld, IsLogging, IsStep, IsTelling};
-ghost use Rattle.hs_top.specs.Told.{IsNamed};
+ghost use Rattle.hs_host.specs.Moments.{Since, IsPrinted};
+ghost use Rattle.hs_top.specs.Holding.{IsHeld, IsLogging, IsStep, IsAcknowledging};
+ghost use Rattle.hs_top.specs.Acknowledged.{IsNamed};
 ghost use Rattle.hs_top.specs.declared.statement.Statement.{Statement};
 ghost use Rattle.hs_top.specs.Statement.{statement_of};
 ghost use Rattle.hs_top.specs.Database.{performed, executed};
 ghost use Rattle.hs_top.specs.CommitText.{IsChange};
 ghost use Rattle.hs_top.specs.Lines.{rows_lines, reply_line, answer_lines, outcome_lines};
-ghost use Rattle.hs_top.specs.Machine.{WritesFront, step_of, entered, logged, last_after, if_commit, commits_after};
+ghost use Rattle.hs_top.specs.Machine.{WritesPrefix, step_of, entered, logged, last_after, if_commit, commits_after};
 ghost use Rattle.hs_top.specs.Running.{state_of, texts_in, OnlyLog, HasRoom, IsLog, IsSound, IsWhole, is_damaged};
 
 use crate::commit_text::write_commit;
 use crate::database::{Database, sorted};
-use crate::hand_over::hand_over_much;
+use crate::flush::flush_when_large;
 use crate::output::Output;
 use crate::refusal::Refusal;
 use crate::reply::Reply;
@@ -31,7 +31,7 @@ use hs_values::{Bytes, Chars, Name, Row};
 use std::alloc::Global;
 
 /// Does what an item asks for, and writes its lines.
-#[tactic(auto, using(crate::proofs::Fronts::front_after))]
+#[tactic(auto, using(crate::proofs::Prefixes::front_after))]
 pub fn answer<H: Host>(
     alloc: Global,
     item: Item,
@@ -48,9 +48,9 @@ pub fn answer<H: Host>(
     ensures texts { H.tells → IsHonest (H.standing host.old) → OnOk result (texts_in (H.files host.new) ≡ texts_in (H.files host.old) ++ (step_of item (state_of work.old)).texts) }
     ensures others { H.tells → IsHonest (H.standing host.old) → OnlyLog (H.files host.old) (H.files host.new) }
     ensures done { H.tells → OnOk result (H.written host.new ++ output.new ≡ H.written host.old ++ (output.old ++ (step_of item (state_of work.old)).lines)) }
-    ensures front { H.tells → WritesFront (H.written host.old) (H.written host.new) (output.old ++ (step_of item (state_of work.old)).lines) }
-    ensures moments { H.tells → IsHonest (H.standing host.old) → IsCalm (H.history host.old) (H.files host.old) work.old.log.gated → IsNamed item → (least : ℕ) (before : List ℕ) (rest : List (List ℕ)) → IsTelling least before (H.files host.old) (H.written host.old) output.old work.old.database.commits → Since (IsHeld least (texts_in (H.files host.old) ++ ((step_of item (state_of work.old)).texts ++ rest)) before) (H.history host.old) (H.history host.new) }
-    ensures telling { H.tells → IsHonest (H.standing host.old) → IsNamed item → (least : ℕ) (before : List ℕ) → IsTelling least before (H.files host.old) (H.written host.old) output.old work.old.database.commits → OnOk result (IsTelling least before (H.files host.new) (H.written host.new) output.new work.new.database.commits) }
+    ensures front { H.tells → WritesPrefix (H.written host.old) (H.written host.new) (output.old ++ (step_of item (state_of work.old)).lines) }
+    ensures moments { H.tells → IsHonest (H.standing host.old) → IsCalm (H.history host.old) (H.files host.old) work.old.log.gated → IsNamed item → (least : ℕ) (before : List ℕ) (rest : List (List ℕ)) → IsAcknowledging least before (H.files host.old) (H.written host.old) output.old work.old.database.commits → Since (IsHeld least (texts_in (H.files host.old) ++ ((step_of item (state_of work.old)).texts ++ rest)) before) (H.history host.old) (H.history host.new) }
+    ensures telling { H.tells → IsHonest (H.standing host.old) → IsNamed item → (least : ℕ) (before : List ℕ) → IsAcknowledging least before (H.files host.old) (H.written host.old) output.old work.old.database.commits → OnOk result (IsAcknowledging least before (H.files host.new) (H.written host.new) output.new work.new.database.commits) }
     ensures calm { H.tells → IsHonest (H.standing host.old) → IsCalm (H.history host.old) (H.files host.old) work.old.log.gated → OnOk result (IsCalm (H.history host.new) (H.files host.new) work.new.log.gated) }
     ensures output_fault { IsErrOf result Status.OutputFault → Rose (H.output_faults host.old) (H.output_faults host.new) }
     ensures disk_fault { IsErrOf result Status.DiskFault → Rose (H.disk_faults host.old) (H.disk_faults host.new) }
@@ -63,12 +63,12 @@ pub fn answer<H: Host>(
     ensures standing { H.standing host.new ≡ H.standing host.old }
 {
     perform(alloc, item, work, output, host)?;
-    hand_over_much(output, host)?;
+    flush_when_large(output, host)?;
     Ok(())
 }
 
 // Does what an item asks for, and gathers its lines.
-#[tactic(auto, using(crate::proofs::Fronts::nothing_yet, hs_host::proofs::Passing::since_none))]
+#[tactic(auto, using(crate::proofs::Prefixes::nothing_yet, hs_host::proofs::Passing::since_none))]
 fn perform<H: Host>(
     alloc: Global,
     item: Item,
@@ -85,7 +85,7 @@ fn perform<H: Host>(
     ensures texts { H.tells → IsHonest (H.standing host.old) → OnOk result (texts_in (H.files host.new) ≡ texts_in (H.files host.old) ++ (step_of item (state_of work.old)).texts) }
     ensures others { H.tells → IsHonest (H.standing host.old) → OnlyLog (H.files host.old) (H.files host.new) }
     ensures done { H.tells → OnOk result (H.written host.new ++ output.new ≡ H.written host.old ++ (output.old ++ (step_of item (state_of work.old)).lines)) }
-    ensures front { H.tells → WritesFront (H.written host.old) (H.written host.new) (output.old ++ (step_of item (state_of work.old)).lines) }
+    ensures front { H.tells → WritesPrefix (H.written host.old) (H.written host.new) (output.old ++ (step_of item (state_of work.old)).lines) }
     ensures output_fault { IsErrOf result Status.OutputFault → Rose (H.output_faults host.old) (H.output_faults host.new) }
     ensures moments { H.tells → IsHonest (H.standing host.old) → IsCalm (H.history host.old) (H.files host.old) work.old.log.gated → Since (IsStep (H.history host.old).now (output.old ++ (step_of item (state_of work.old)).lines) (H.files host.old).log work.old.log.gated.end (step_of item (state_of work.old)).texts) (H.history host.old) (H.history host.new) }
     ensures calm { H.tells → IsHonest (H.standing host.old) → IsCalm (H.history host.old) (H.files host.old) work.old.log.gated → OnOk result (IsCalm (H.history host.new) (H.files host.new) work.new.log.gated) }
@@ -118,7 +118,7 @@ fn perform<H: Host>(
 }
 
 // Does what an entry asks for, and gathers its lines.
-#[tactic(auto, using(crate::proofs::Fronts::nothing_yet, hs_host::proofs::Passing::since_none))]
+#[tactic(auto, using(crate::proofs::Prefixes::nothing_yet, hs_host::proofs::Passing::since_none))]
 fn enter<H: Host>(
     alloc: Global,
     number: u64,
@@ -137,7 +137,7 @@ fn enter<H: Host>(
     ensures texts { H.tells → IsHonest (H.standing host.old) → OnOk result (texts_in (H.files host.new) ≡ texts_in (H.files host.old) ++ (step_of (Item.Entry number name.now text.now 0) (state_of work.old)).texts) }
     ensures others { H.tells → IsHonest (H.standing host.old) → OnlyLog (H.files host.old) (H.files host.new) }
     ensures done { H.tells → OnOk result (H.written host.new ++ output.new ≡ H.written host.old ++ (output.old ++ (step_of (Item.Entry number name.now text.now 0) (state_of work.old)).lines)) }
-    ensures front { H.tells → WritesFront (H.written host.old) (H.written host.new) (output.old ++ (step_of (Item.Entry number name.now text.now 0) (state_of work.old)).lines) }
+    ensures front { H.tells → WritesPrefix (H.written host.old) (H.written host.new) (output.old ++ (step_of (Item.Entry number name.now text.now 0) (state_of work.old)).lines) }
     ensures output_fault { IsErrOf result Status.OutputFault → Rose (H.output_faults host.old) (H.output_faults host.new) }
     ensures moments { H.tells → IsHonest (H.standing host.old) → IsCalm (H.history host.old) (H.files host.old) work.old.log.gated → Since (IsStep (H.history host.old).now (output.old ++ (step_of (Item.Entry number name.now text.now 0) (state_of work.old)).lines) (H.files host.old).log work.old.log.gated.end (step_of (Item.Entry number name.now text.now 0) (state_of work.old)).texts) (H.history host.old) (H.history host.new) }
     ensures calm { H.tells → IsHonest (H.standing host.old) → IsCalm (H.history host.old) (H.files host.old) work.old.log.gated → OnOk result (IsCalm (H.history host.new) (H.files host.new) work.new.log.gated) }
@@ -150,7 +150,7 @@ fn enter<H: Host>(
     ensures input_faults { H.input_faults host.new ≡ H.input_faults host.old }
     ensures standing { H.standing host.new ≡ H.standing host.old }
 {
-    let Some(session) = work.sessions.join(name)? else {
+    let Some(session) = work.sessions.admit(name)? else {
         output.push_reply(number, name.as_str(), &Reply::Refused(Refusal::Sessions))?;
         return Ok(());
     };
@@ -170,7 +170,7 @@ fn enter<H: Host>(
 }
 
 // Executes a statement of a session, and gathers its lines.
-#[tactic(auto, using(crate::proofs::Fronts::nothing_yet, hs_host::proofs::Passing::since_none))]
+#[tactic(auto, using(crate::proofs::Prefixes::nothing_yet, hs_host::proofs::Passing::since_none))]
 fn execute<H: Host>(
     alloc: Global,
     number: u64,
@@ -195,7 +195,7 @@ fn execute<H: Host>(
     ensures texts { H.tells → IsHonest (H.standing host.old) → OnOk result (texts_in (H.files host.new) ≡ texts_in (H.files host.old) ++ logged log.old.last session statement (performed database.old statement).reply) }
     ensures others { H.tells → IsHonest (H.standing host.old) → OnlyLog (H.files host.old) (H.files host.new) }
     ensures done { H.tells → OnOk result (H.written host.new ++ output.new ≡ H.written host.old ++ (output.old ++ outcome_lines number name.now (performed database.old statement))) }
-    ensures front { H.tells → WritesFront (H.written host.old) (H.written host.new) (output.old ++ outcome_lines number name.now (performed database.old statement)) }
+    ensures front { H.tells → WritesPrefix (H.written host.old) (H.written host.new) (output.old ++ outcome_lines number name.now (performed database.old statement)) }
     ensures output_fault { IsErrOf result Status.OutputFault → Rose (H.output_faults host.old) (H.output_faults host.new) }
     ensures moments { H.tells → IsHonest (H.standing host.old) → IsCalm (H.history host.old) (H.files host.old) log.old.gated → Since (IsStep (H.history host.old).now (output.old ++ outcome_lines number name.now (performed database.old statement)) (H.files host.old).log log.old.gated.end (logged log.old.last session statement (performed database.old statement).reply)) (H.history host.old) (H.history host.new) }
     ensures calm { H.tells → IsHonest (H.standing host.old) → IsCalm (H.history host.old) (H.files host.old) log.old.gated → OnOk result (IsCalm (H.history host.new) (H.files host.new) log.new.gated) }
@@ -233,7 +233,7 @@ fn execute<H: Host>(
 }
 
 // Changes the database, and logs the commit before its reply is gathered.
-#[tactic(auto, using(crate::proofs::Fronts::nothing_yet, hs_host::proofs::Passing::since_none))]
+#[tactic(auto, using(crate::proofs::Prefixes::nothing_yet, hs_host::proofs::Passing::since_none))]
 fn change<H: Host>(
     alloc: Global,
     number: u64,
@@ -259,7 +259,7 @@ fn change<H: Host>(
     ensures texts { H.tells → IsHonest (H.standing host.old) → OnOk result (texts_in (H.files host.new) ≡ texts_in (H.files host.old) ++ logged log.old.last session (Some statement) (executed database.old statement).reply) }
     ensures others { H.tells → IsHonest (H.standing host.old) → OnlyLog (H.files host.old) (H.files host.new) }
     ensures done { H.tells → OnOk result (H.written host.new ++ output.new ≡ H.written host.old ++ (output.old ++ outcome_lines number name.now (executed database.old statement))) }
-    ensures front { H.tells → WritesFront (H.written host.old) (H.written host.new) (output.old ++ outcome_lines number name.now (executed database.old statement)) }
+    ensures front { H.tells → WritesPrefix (H.written host.old) (H.written host.new) (output.old ++ outcome_lines number name.now (executed database.old statement)) }
     ensures output_fault { IsErrOf result Status.OutputFault → Rose (H.output_faults host.old) (H.output_faults host.new) }
     ensures moments { H.tells → IsHonest (H.standing host.old) → IsCalm (H.history host.old) (H.files host.old) log.old.gated → Since (IsLogging (H.history host.old).now (H.files host.old).log log.old.gated.end (logged log.old.last session (Some statement) (executed database.old statement).reply)) (H.history host.old) (H.history host.new) }
     ensures calm { H.tells → IsHonest (H.standing host.old) → IsCalm (H.history host.old) (H.files host.old) log.old.gated → OnOk result (IsCalm (H.history host.new) (H.files host.new) log.new.gated) }
@@ -317,7 +317,7 @@ fn log_commit<H: Host>(
 }
 
 // Gathers the answer of a query.
-#[tactic(auto, using(crate::proofs::Fronts::nothing_yet, hs_host::proofs::Passing::since_none))]
+#[tactic(auto, using(crate::proofs::Prefixes::nothing_yet, hs_host::proofs::Passing::since_none))]
 fn select<H: Host>(
     alloc: Global,
     number: u64,
@@ -328,8 +328,8 @@ fn select<H: Host>(
     host: &mut H,
 ) -> Result<(), Status>
     ensures done { H.tells → OnOk result (H.written host.new ++ output.new ≡ H.written host.old ++ (output.old ++ outcome_lines number session.now (executed database.now (Statement.Select name)))) }
-    ensures front { H.tells → WritesFront (H.written host.old) (H.written host.new) (output.old ++ outcome_lines number session.now (executed database.now (Statement.Select name))) }
-    ensures moments { H.tells → Since (IsTold (H.history host.old).now (output.old ++ outcome_lines number session.now (executed database.now (Statement.Select name)))) (H.history host.old) (H.history host.new) }
+    ensures front { H.tells → WritesPrefix (H.written host.old) (H.written host.new) (output.old ++ outcome_lines number session.now (executed database.now (Statement.Select name))) }
+    ensures moments { H.tells → Since (IsPrinted (H.history host.old).now (output.old ++ outcome_lines number session.now (executed database.now (Statement.Select name)))) (H.history host.old) (H.history host.new) }
     ensures output_fault { IsErrOf result Status.OutputFault → Rose (H.output_faults host.old) (H.output_faults host.new) }
     ensures only { IsErrOf result Status.Done ⊎ (IsErrOf result Status.Usage ⊎ (IsErrOf result Status.InputFault ⊎ (IsErrOf result Status.DiskFault ⊎ IsErrOf result Status.InputTooLong))) → ⊥ }
     ensures whole { IfErr result (λ status. is_damaged status ≡ false) }
@@ -360,8 +360,8 @@ fn push_answer<H: Host>(
     host: &mut H,
 ) -> Result<(), Status>
     ensures done { H.tells → OnOk result (H.written host.new ++ output.new ≡ H.written host.old ++ (output.old ++ answer_lines number session.now table.now)) }
-    ensures front { H.tells → WritesFront (H.written host.old) (H.written host.new) (output.old ++ answer_lines number session.now table.now) }
-    ensures moments { H.tells → Since (IsTold (H.history host.old).now (output.old ++ answer_lines number session.now table.now)) (H.history host.old) (H.history host.new) }
+    ensures front { H.tells → WritesPrefix (H.written host.old) (H.written host.new) (output.old ++ answer_lines number session.now table.now) }
+    ensures moments { H.tells → Since (IsPrinted (H.history host.old).now (output.old ++ answer_lines number session.now table.now)) (H.history host.old) (H.history host.new) }
     ensures output_fault { IsErrOf result Status.OutputFault → Rose (H.output_faults host.old) (H.output_faults host.new) }
     ensures only { IsErrOf result Status.Done ⊎ (IsErrOf result Status.Usage ⊎ (IsErrOf result Status.InputFault ⊎ (IsErrOf result Status.DiskFault ⊎ IsErrOf result Status.InputTooLong))) → ⊥ }
     ensures whole { IfErr result (λ status. is_damaged status ≡ false) }
@@ -383,7 +383,7 @@ fn push_answer<H: Host>(
 }
 
 // Writes a line for each row.
-#[tactic(auto, using(crate::proofs::Fronts::nothing_yet, hs_host::proofs::Passing::since_none))]
+#[tactic(auto, using(crate::proofs::Prefixes::nothing_yet, hs_host::proofs::Passing::since_none))]
 fn push_rows<H: Host>(
     number: u64,
     session: &str,
@@ -392,8 +392,8 @@ fn push_rows<H: Host>(
     host: &mut H,
 ) -> Result<(), Status>
     ensures done { H.tells → OnOk result (H.written host.new ++ output.new ≡ H.written host.old ++ (output.old ++ rows_lines number session.now (map (λ r. r.now) rows.now))) }
-    ensures front { H.tells → WritesFront (H.written host.old) (H.written host.new) (output.old ++ rows_lines number session.now (map (λ r. r.now) rows.now)) }
-    ensures moments { H.tells → Since (IsTold (H.history host.old).now (output.old ++ rows_lines number session.now (map (λ r. r.now) rows.now))) (H.history host.old) (H.history host.new) }
+    ensures front { H.tells → WritesPrefix (H.written host.old) (H.written host.new) (output.old ++ rows_lines number session.now (map (λ r. r.now) rows.now)) }
+    ensures moments { H.tells → Since (IsPrinted (H.history host.old).now (output.old ++ rows_lines number session.now (map (λ r. r.now) rows.now))) (H.history host.old) (H.history host.new) }
     ensures output_fault { IsErrOf result Status.OutputFault → Rose (H.output_faults host.old) (H.output_faults host.new) }
     ensures only { IsErrOf result Status.Done ⊎ (IsErrOf result Status.Usage ⊎ (IsErrOf result Status.InputFault ⊎ (IsErrOf result Status.DiskFault ⊎ IsErrOf result Status.InputTooLong))) → ⊥ }
     ensures whole { IfErr result (λ status. is_damaged status ≡ false) }
@@ -406,7 +406,7 @@ fn push_rows<H: Host>(
 {
     for row in rows {
         output.push_row(number, session, row.as_slice())?;
-        hand_over_much(output, host)?;
+        flush_when_large(output, host)?;
     }
     Ok(())
 }

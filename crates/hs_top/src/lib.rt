@@ -6,7 +6,7 @@ mod command;
 mod commit_text;
 mod damage;
 mod database;
-mod hand_over;
+mod flush;
 mod integer;
 mod keyed;
 mod laws;

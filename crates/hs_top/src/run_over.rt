@@ -9,13 +9,13 @@ ghost use Rattle.hs_entries.specs.Items.{items};
 ghost use Rattle.hs_top.specs.Command.{database_of};
 ghost use Rattle.hs_top.specs.Crash.{IsSafe, IsSafeFromOpening, HasLog, Survives};
 ghost use Rattle.hs_top.specs.Holding.{IsHeld};
-ghost use Rattle.hs_top.specs.Machine.{WritesFront, transcript, transcript_within, machine, texts_of};
+ghost use Rattle.hs_top.specs.Machine.{WritesPrefix, transcript, transcript_within, machine, texts_of};
 ghost use Rattle.hs_top.specs.Opening.{Opened, opened_of, opened_by, begun_with, texts_at, texts_from, ended_with, shown, IsWholeLog, IsDamageOf};
 ghost use Rattle.hs_top.specs.Running.{IsLog, IsSound, HasRoom, OnlyLog, texts_in, is_damaged, has_opened};
 
 use crate::command::database_of;
 use crate::damage::Damage;
-use crate::hand_over::hand_over;
+use crate::flush::flush;
 use crate::opening::{Opening, open_log};
 use crate::output::Output;
 use crate::running::Running;
@@ -34,14 +34,14 @@ const MOST_INPUT: u64 = 1 << 30;
 /// order, logs each commit before its reply, and writes the lines of the transcript, as far as it comes, to
 /// the output. The words are `hsql DATABASE`. The host has no name yet.
 ///
-/// The status says how the run ended and why. Whatever it is, what was written is a front of the
+/// The status says how the run ended and why. Whatever it is, what was written is a prefix of the
 /// transcript over the commits of the log. At `Done` it is all of it, the log's groups are the texts of all
 /// commits, and the next run begins with the database with which this one ended.
 ///
 /// A crash at any moment of the run leaves a log with which the next run begins after some number of this one's
 /// turns, and with all commits that were told of by then. Only while a log is first made may it leave another. At a
 /// status that says that the log was open, the moment at which the run ends is such a moment too.
-#[tactic(auto, using(crate::proofs::Fronts::nothing_yet, crate::proofs::Safe::not_opened))]
+#[tactic(auto, using(crate::proofs::Prefixes::nothing_yet, crate::proofs::Safe::not_opened))]
 pub fn run<H: Host>(alloc: Global, words: &Words, host: &mut H) -> Status
     requires { IsUnnamed (H.standing host.old) }
 
@@ -51,7 +51,7 @@ pub fn run<H: Host>(alloc: Global, words: &Words, host: &mut H) -> Status
     ensures name { (result ≡ Status.Usage → ⊥) → (result ≡ Status.NoMemory → ⊥) → (H.standing host.new).name ≡ database_of words.now }
 
     // What is written.
-    ensures front { H.tells → IsHonest (H.standing host.old) → WritesFront (H.written host.old) (H.written host.new) (shown (opened_of (H.files host.old).log) (H.unread host.old)) }
+    ensures front { H.tells → IsHonest (H.standing host.old) → WritesPrefix (H.written host.old) (H.written host.new) (shown (opened_of (H.files host.old).log) (H.unread host.old)) }
     ensures done { H.tells → IsHonest (H.standing host.old) → (opened : Opened) → opened_of (H.files host.old).log ≡ Ok opened → result ≡ Status.Done → H.written host.new ≡ H.written host.old ++ transcript (begun_with opened) (H.unread host.old) }
     ensures done_within { H.tells → result ≡ Status.Done → length (H.unread host.old) ≤ 2 ^ 30 }
     ensures too_long { H.tells → result ≡ Status.InputTooLong → 2 ^ 30 < length (H.unread host.old) }
@@ -125,10 +125,10 @@ fn mount<H: Host>(name: &str, host: &mut H) -> Result<(), Status>
 }
 
 // Opens the log, and answers all items.
-#[tactic(auto, using(crate::proofs::Fronts::nothing_yet, hs_host::proofs::Passing::since_none))]
+#[tactic(auto, using(crate::proofs::Prefixes::nothing_yet, hs_host::proofs::Passing::since_none))]
 fn serve<H: Host>(alloc: Global, host: &mut H) -> Result<(), Status>
     requires { IsOpen (H.standing host.old) }
-    ensures front { H.tells → IsHonest (H.standing host.old) → WritesFront (H.written host.old) (H.written host.new) (shown (opened_of (H.files host.old).log) (H.unread host.old)) }
+    ensures front { H.tells → IsHonest (H.standing host.old) → WritesPrefix (H.written host.old) (H.written host.new) (shown (opened_of (H.files host.old).log) (H.unread host.old)) }
     ensures opened { H.tells → IsHonest (H.standing host.old) → (number : ℕ) → opened_of (H.files host.old).log ≡ Err number → OnOk result ⊥ }
     ensures done { H.tells → IsHonest (H.standing host.old) → (opened : Opened) → opened_of (H.files host.old).log ≡ Ok opened → OnOk result (H.written host.new ≡ H.written host.old ++ transcript (begun_with opened) (H.unread host.old)) }
     ensures log { H.tells → IsHonest (H.standing host.old) → (opened : Opened) → opened_of (H.files host.old).log ≡ Ok opened → OnOk result (IsWholeLog (H.files host.new).log (texts_at (H.files host.old).log ++ texts_from opened (H.unread host.old))) }
@@ -167,7 +167,7 @@ fn answer_all<H: Host>(alloc: Global, opening: Opening, host: &mut H) -> Result<
     requires logged { H.tells → IsHonest (H.standing host.old) → IsLog (H.files host.old) opening.log }
     requires calm { H.tells → IsHonest (H.standing host.old) → IsCalm (H.history host.old) (H.files host.old) opening.log.gated }
     requires counted { H.tells → IsHonest (H.standing host.old) → opening.database.commits ≡ length (texts_in (H.files host.old)) }
-    ensures front { H.tells → WritesFront (H.written host.old) (H.written host.new) (transcript (begun_with (opened_by opening)) (H.unread host.old)) }
+    ensures front { H.tells → WritesPrefix (H.written host.old) (H.written host.new) (transcript (begun_with (opened_by opening)) (H.unread host.old)) }
     ensures done { H.tells → OnOk result (H.written host.new ≡ H.written host.old ++ transcript (begun_with (opened_by opening)) (H.unread host.old)) }
     ensures before_too_long { H.tells → IsErrOf result Status.InputTooLong → H.written host.new ≡ H.written host.old ++ transcript_within (2 ^ 30) (begun_with (opened_by opening)) (H.unread host.old) }
     ensures log { H.tells → IsHonest (H.standing host.old) → OnOk result (IsWholeLog (H.files host.new).log (texts_in (H.files host.old) ++ texts_from (opened_by opening) (H.unread host.old))) }
@@ -201,6 +201,6 @@ fn answer_all<H: Host>(alloc: Global, opening: Opening, host: &mut H) -> Result<
     };
     while running.turn(host)? {}
     running.output.push_closed(running.work.database.commits)?;
-    hand_over(&mut running.output, host)?;
+    flush(&mut running.output, host)?;
     Ok(())
 }

@@ -3,15 +3,15 @@ ghost use Rattle.std.specs.Prelude.{◌≡◌, ◌⊎◌, ℕ, ◌+◌, ◌<◌,
 ghost use Rattle.hs_host.specs.Host.{Rose};
 ghost use Rattle.hs_gate.specs.Crash.{IsCalm};
 ghost use Rattle.hs_host.specs.Files.{IsOpen, IsHonest};
-ghost use Rattle.hs_host.specs.Moments.{Since, IsStill, IsTold};
-ghost use Rattle.hs_top.specs.Holding.{IsHeld, IsTelling};
+ghost use Rattle.hs_host.specs.Moments.{Since, IsStill, IsPrinted};
+ghost use Rattle.hs_top.specs.Holding.{IsHeld, IsAcknowledging};
 ghost use Rattle.hs_entries.specs.Left.{TakesFirst, TakesWhole, RunsOut, IsBeyond, KeepsRoom};
 ghost use Rattle.hs_entries.specs.Reader.{ahead, kept, left, left_items, left_whole, room};
-ghost use Rattle.hs_top.specs.Machine.{WritesFront, rest_of, lines_of, texts_of};
+ghost use Rattle.hs_top.specs.Machine.{WritesPrefix, rest_of, lines_of, texts_of};
 ghost use Rattle.hs_top.specs.Running.{is_damaged, is_end};
 
 use crate::answer::answer;
-use crate::hand_over::hand_over;
+use crate::flush::flush;
 use crate::output::Output;
 use crate::status::Status;
 use crate::work::Work;
@@ -41,13 +41,13 @@ impl Running {
         ensures over { H.tells → IfOk result (λ more. more ≡ false → left_items self.new.reader (H.unread host.new) ≡ []) }
         ensures within { H.tells → IsTooLong self.old (H.unread host.old) → OnOk result (H.written host.new ++ (self.new.output ++ lines_of (machine_within self.new (H.unread host.new))) ≡ H.written host.old ++ (self.old.output ++ lines_of (machine_within self.old (H.unread host.old)))) }
         ensures too_long { H.tells → IsErrOf result Status.InputTooLong → IsTooLong self.old (H.unread host.old) × (H.written host.new ≡ H.written host.old ++ (self.old.output ++ lines_of (machine_within self.old (H.unread host.old)))) }
-        ensures front { H.tells → WritesFront (H.written host.old) (H.written host.new) (self.old.output ++ rest_of (machine_of self.old (H.unread host.old))) }
+        ensures front { H.tells → WritesPrefix (H.written host.old) (H.written host.new) (self.old.output ++ rest_of (machine_of self.old (H.unread host.old))) }
         ensures texts { H.tells → IsHonest (H.standing host.old) → OnOk result (texts_in (H.files host.new) ++ texts_of (machine_of self.new (H.unread host.new)) ≡ texts_in (H.files host.old) ++ texts_of (machine_of self.old (H.unread host.old))) }
         ensures logged { H.tells → IsHonest (H.standing host.old) → OnOk result (IsLog (H.files host.new) self.new.work.log) }
         ensures others { H.tells → IsHonest (H.standing host.old) → OnlyLog (H.files host.old) (H.files host.new) }
-        ensures moments { H.tells → IsHonest (H.standing host.old) → IsCalm (H.history host.old) (H.files host.old) self.old.work.log.gated → (least : ℕ) (before : List ℕ) → IsTelling least before (H.files host.old) (H.written host.old) self.old.output self.old.work.database.commits → Since (IsHeld least (texts_in (H.files host.old) ++ texts_of (machine_of self.old (H.unread host.old))) before) (H.history host.old) (H.history host.new) }
+        ensures moments { H.tells → IsHonest (H.standing host.old) → IsCalm (H.history host.old) (H.files host.old) self.old.work.log.gated → (least : ℕ) (before : List ℕ) → IsAcknowledging least before (H.files host.old) (H.written host.old) self.old.output self.old.work.database.commits → Since (IsHeld least (texts_in (H.files host.old) ++ texts_of (machine_of self.old (H.unread host.old))) before) (H.history host.old) (H.history host.new) }
         ensures calm { H.tells → IsHonest (H.standing host.old) → IsCalm (H.history host.old) (H.files host.old) self.old.work.log.gated → OnOk result (IsCalm (H.history host.new) (H.files host.new) self.new.work.log.gated) }
-        ensures telling { H.tells → IsHonest (H.standing host.old) → (least : ℕ) (before : List ℕ) → IsTelling least before (H.files host.old) (H.written host.old) self.old.output self.old.work.database.commits → OnOk result (IsTelling least before (H.files host.new) (H.written host.new) self.new.output self.new.work.database.commits) }
+        ensures telling { H.tells → IsHonest (H.standing host.old) → (least : ℕ) (before : List ℕ) → IsAcknowledging least before (H.files host.old) (H.written host.old) self.old.output self.old.work.database.commits → OnOk result (IsAcknowledging least before (H.files host.new) (H.written host.new) self.new.output self.new.work.database.commits) }
         ensures count { H.tells → OnOk result (KeepsRoom (left self.old.reader (H.unread host.old)) (left self.new.reader (H.unread host.new))) }
         ensures end { H.tells → IfOk result (λ more. more ≡ false → ahead self.new.reader ++ H.unread host.new ≡ []) }
         ensures used { IfOk result (λ more. more ≡ true → room self.new.reader < room self.old.reader) }
@@ -100,8 +100,8 @@ fn next_item<H: Host>(
     ensures too_long { H.tells → IsErrOf result Status.InputTooLong → IsBeyond (left reader.old (H.unread host.old)) }
     ensures done { H.tells → OnOk result (H.written host.new ++ output.new ≡ H.written host.old ++ output.old) }
     ensures all { H.tells → IsErrOf result Status.InputTooLong → H.written host.new ≡ H.written host.old ++ output.old }
-    ensures front { H.tells → WritesFront (H.written host.old) (H.written host.new) output.old }
-    ensures moments { H.tells → Since (IsTold (H.history host.old).now output.old) (H.history host.old) (H.history host.new) }
+    ensures front { H.tells → WritesPrefix (H.written host.old) (H.written host.new) output.old }
+    ensures moments { H.tells → Since (IsPrinted (H.history host.old).now output.old) (H.history host.old) (H.history host.new) }
     ensures input_fault { IsErrOf result Status.InputFault → Rose (H.input_faults host.old) (H.input_faults host.new) }
     ensures output_fault { IsErrOf result Status.OutputFault → Rose (H.output_faults host.old) (H.output_faults host.new) }
     ensures only { IsErrOf result Status.Done ⊎ (IsErrOf result Status.Usage ⊎ IsErrOf result Status.DiskFault) → ⊥ }
@@ -112,21 +112,21 @@ fn next_item<H: Host>(
     ensures standing { H.standing host.new ≡ H.standing host.old }
     ensures disk_faults { H.disk_faults host.new ≡ H.disk_faults host.old }
 {
-    hand_over_unless_ready(reader, output, host)?;
+    flush_unless_ready(reader, output, host)?;
     match read_next(reader, host) {
         Ok(item) => Ok(item),
         Err(InputFault::Fault) => Err(Status::InputFault),
         Err(InputFault::NoMemory) => Err(Status::NoMemory),
         Err(InputFault::TooLong) => {
-            hand_over(output, host)?;
+            flush(output, host)?;
             Err(Status::InputTooLong)
         }
     }
 }
 
 // Hands over what is gathered, unless the next item is at hand.
-#[tactic(auto, using(crate::proofs::Fronts::nothing_yet, hs_host::proofs::Passing::since_none))]
-fn hand_over_unless_ready<H: Host>(
+#[tactic(auto, using(crate::proofs::Prefixes::nothing_yet, hs_host::proofs::Passing::since_none))]
+fn flush_unless_ready<H: Host>(
     reader: &mut EntryReader,
     output: &mut Output,
     host: &mut H,
@@ -135,8 +135,8 @@ fn hand_over_unless_ready<H: Host>(
     ensures ahead { ahead reader.new ≡ ahead reader.old }
     ensures kept { kept reader.new ≡ kept reader.old }
     ensures done { H.tells → OnOk result (H.written host.new ++ output.new ≡ H.written host.old ++ output.old) }
-    ensures front { H.tells → WritesFront (H.written host.old) (H.written host.new) output.old }
-    ensures moments { H.tells → Since (IsTold (H.history host.old).now output.old) (H.history host.old) (H.history host.new) }
+    ensures front { H.tells → WritesPrefix (H.written host.old) (H.written host.new) output.old }
+    ensures moments { H.tells → Since (IsPrinted (H.history host.old).now output.old) (H.history host.old) (H.history host.new) }
     ensures output_fault { IsErrOf result Status.OutputFault → Rose (H.output_faults host.old) (H.output_faults host.new) }
     ensures only { IsErrOf result Status.Done ⊎ (IsErrOf result Status.Usage ⊎ (IsErrOf result Status.InputFault ⊎ (IsErrOf result Status.DiskFault ⊎ IsErrOf result Status.InputTooLong))) → ⊥ }
     ensures whole { IfErr result (λ status. is_damaged status ≡ false) }
@@ -150,7 +150,7 @@ fn hand_over_unless_ready<H: Host>(
     if reader.is_ready() {
         return Ok(());
     }
-    hand_over(output, host)
+    flush(output, host)
 }
 
 // The next item of the input. Nothing but the input is changed.

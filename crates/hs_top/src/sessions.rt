@@ -28,7 +28,7 @@ impl Model for Sessions {
 }
 
 impl Sessions {
-    ghost use Rattle.hs_top.specs.Sessions.{joined};
+    ghost use Rattle.hs_top.specs.Sessions.{admitted};
 
     /// No sessions. Takes no memory.
     pub fn new(alloc: Global) -> Sessions
@@ -41,8 +41,8 @@ impl Sessions {
 
     /// The number of the session of this name, counted from 1. A new name makes a session, as long as there are
     /// fewer than 64; else there is none.
-    pub fn join(&mut self, name: &Name) -> Result<Option<u32>, AllocError>
-        ensures number { IfOk result (λ n. option_map (λ s. record { number = s; sessions = self.new }) n ≡ joined name.now self.old) }
+    pub fn admit(&mut self, name: &Name) -> Result<Option<u32>, AllocError>
+        ensures number { IfOk result (λ n. option_map (λ s. record { number = s; sessions = self.new }) n ≡ admitted name.now self.old) }
         ensures kept { IfOk result (λ n. n ≡ None → self.new ≡ self.old) }
     {
         if let Some(number) = number_in(name, self.names.as_slice()) {

@@ -122,7 +122,7 @@ fn told(text: &[u8]) -> u32 {
     count
 }
 
-// Each call fails in turn: the status is that device's, a front of the output is written, and the log that
+// Each call fails in turn: the status is that device's, a prefix of the output is written, and the log that
 // is left opens at a commit, and not before one that was told.
 #[test]
 fn failing_calls(rt: HostRuntime) -> Result<(), Fail> {

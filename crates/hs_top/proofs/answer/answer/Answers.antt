@@ -3,18 +3,18 @@ use Rattle.hs_host.specs.Files.{IsHonest}
 use Rattle.hs_host.specs.Moments.{Since}
 use Rattle.hs_host.proofs.Passing.{since_weaker, since_join}
 use Rattle.hs_gate.specs.Crash.{IsCalm}
-use Rattle.hs_top.specs.Holding.{IsHeld, IsGathered, IsTelling}
+use Rattle.hs_top.specs.Holding.{IsHeld, IsGathered, IsAcknowledging}
 use Rattle.hs_top.specs.Machine.{step_of}
 use Rattle.hs_top.specs.Running.{state_of, texts_in}
-use Rattle.hs_top.specs.Told.{IsNamed}
+use Rattle.hs_top.specs.Acknowledged.{IsNamed}
 use Rattle.hs_top.proofs.Holding.{calm_told, gathered_step, held_step, held_telling, telling_step, telling_handed}
-use Rattle.hs_top.proofs.Told.{one_text}
+use Rattle.hs_top.proofs.Acknowledged.{one_text}
 use Rattle.hs_top.proofs.answer.answer.Goals as goal
-use Rattle.hs_top.proofs.answer.answer.Goals.{After-perform, After-hand_over_much}
+use Rattle.hs_top.proofs.answer.answer.Goals.{After-perform, After-flush_when_large}
 
 -- the moments until the item is done
 done : (g : _) (c : After-perform g) → g.H.Source.tells → IsHonest (g.H.Host.standing c.args.host.now) → IsCalm (g.H.Host.history c.args.host.now) (g.H.Host.files c.args.host.now) c.args.work.now.log.gated → IsNamed c.args.item
-    → (least : ℕ) (before : List ℕ) (rest : List (List ℕ)) → IsTelling least before (g.H.Host.files c.args.host.now) (g.H.Host.written c.args.host.now) c.args.output.now c.args.work.now.database.commits
+    → (least : ℕ) (before : List ℕ) (rest : List (List ℕ)) → IsAcknowledging least before (g.H.Host.files c.args.host.now) (g.H.Host.written c.args.host.now) c.args.output.now c.args.work.now.database.commits
     → Since (IsHeld least (texts_in (g.H.Host.files c.args.host.now) ++ ((step_of c.args.item (state_of c.args.work.now)).texts ++ rest)) before) (g.H.Host.history c.args.host.now) (g.H.Host.history c.perform.new.host)
 done g c told honest calm named least before rest t =
     let s = state_of c.args.work.now in
@@ -29,17 +29,17 @@ done g c told honest calm named least before rest t =
     subst (IsGathered before (g.H.Host.history c.args.host.now).now.out (c.args.output.now ++ step.lines)) same (gathered_step before _ c.args.output.now c.args.item s named all)))
 
 -- and what it left
-left : (g : _) (c : After-hand_over_much g) → g.H.Source.tells → IsHonest (g.H.Host.standing c.args.host.now) → IsNamed c.args.item
-    → (least : ℕ) (before : List ℕ) → IsTelling least before (g.H.Host.files c.args.host.now) (g.H.Host.written c.args.host.now) c.args.output.now c.args.work.now.database.commits
-    → IsTelling least before (g.H.Host.files c.perform.new.host) (g.H.Host.written c.perform.new.host) c.perform.new.output c.perform.new.work.database.commits
+left : (g : _) (c : After-flush_when_large g) → g.H.Source.tells → IsHonest (g.H.Host.standing c.args.host.now) → IsNamed c.args.item
+    → (least : ℕ) (before : List ℕ) → IsAcknowledging least before (g.H.Host.files c.args.host.now) (g.H.Host.written c.args.host.now) c.args.output.now c.args.work.now.database.commits
+    → IsAcknowledging least before (g.H.Host.files c.perform.new.host) (g.H.Host.written c.perform.new.host) c.perform.new.output c.perform.new.work.database.commits
 left g c told honest named least before t =
     telling_step least before (g.H.Host.files c.args.host.now) (g.H.Host.files c.perform.new.host) (g.H.Host.written c.args.host.now) (g.H.Host.written c.perform.new.host) c.args.output.now c.perform.new.output c.args.item (state_of c.args.work.now) (state_of c.perform.new.work) named
     c.in_ok-perform.ensures.state (c.in_ok-perform.ensures.texts told honest) (c.in_ok-perform.ensures.done told) (c.perform.ensures.front told).grown t
 
 -- with the moments while output is handed over
-handed : (g : _) (c : After-hand_over_much g) → g.H.Source.tells → IsHonest (g.H.Host.standing c.args.host.now) → IsCalm (g.H.Host.history c.args.host.now) (g.H.Host.files c.args.host.now) c.args.work.now.log.gated → IsNamed c.args.item
-    → (least : ℕ) (before : List ℕ) (rest : List (List ℕ)) → IsTelling least before (g.H.Host.files c.args.host.now) (g.H.Host.written c.args.host.now) c.args.output.now c.args.work.now.database.commits
-    → Since (IsHeld least (texts_in (g.H.Host.files c.args.host.now) ++ ((step_of c.args.item (state_of c.args.work.now)).texts ++ rest)) before) (g.H.Host.history c.args.host.now) (g.H.Host.history c.hand_over_much.new.host)
+handed : (g : _) (c : After-flush_when_large g) → g.H.Source.tells → IsHonest (g.H.Host.standing c.args.host.now) → IsCalm (g.H.Host.history c.args.host.now) (g.H.Host.files c.args.host.now) c.args.work.now.log.gated → IsNamed c.args.item
+    → (least : ℕ) (before : List ℕ) (rest : List (List ℕ)) → IsAcknowledging least before (g.H.Host.files c.args.host.now) (g.H.Host.written c.args.host.now) c.args.output.now c.args.work.now.database.commits
+    → Since (IsHeld least (texts_in (g.H.Host.files c.args.host.now) ++ ((step_of c.args.item (state_of c.args.work.now)).texts ++ rest)) before) (g.H.Host.history c.args.host.now) (g.H.Host.history c.flush_when_large.new.host)
 handed g c told honest calm named least before rest t =
     let ok = c.in_ok-perform.ensures in
     let after = left g c told honest named least before t in
@@ -47,8 +47,8 @@ handed g c told honest calm named least before rest t =
     let all = subst (λ (o : List ℕ). IsGathered before o c.perform.new.output c.perform.new.work.database.commits) out after.gathered in
     let texts : texts_in (g.H.Host.files c.perform.new.host) ++ rest ≡ texts_in (g.H.Host.files c.args.host.now) ++ ((step_of c.args.item (state_of c.args.work.now)).texts ++ rest) =
     ap (λ (ts : List (List ℕ)). ts ++ rest) (ok.texts told honest) ∙ append_assoc (texts_in (g.H.Host.files c.args.host.now)) (step_of c.args.item (state_of c.args.work.now)).texts rest in
-    since_join (done g (goal.at.After-hand_over_much g c).After-perform told honest calm named least before rest t)
-    (since_weaker (c.hand_over_much.ensures.moments told)
+    since_join (done g (goal.at.After-flush_when_large g c).After-perform told honest calm named least before rest t)
+    (since_weaker (c.flush_when_large.ensures.moments told)
     (λ m telling. subst (λ (ts : List (List ℕ)). IsHeld least ts before m) texts
     (held_telling (g.H.Host.files c.perform.new.host) (g.H.Host.history c.perform.new.host) c.perform.new.work.log ok.sane.sound (ok.logged told honest) (ok.calm told honest calm) least before c.perform.new.work.database.commits after.enough after.counted
     c.perform.new.output rest m all telling)))
@@ -56,18 +56,18 @@ handed g c told honest calm named least before rest t =
 pub returns-in_err-perform-clause-moments : goal.returns-in_err-perform-clause-moments
 returns-in_err-perform-clause-moments g c = done g (goal.at.returns-in_err-perform-clause-moments g c).After-perform
 
-pub returns-in_err-hand_over_much-clause-moments : goal.returns-in_err-hand_over_much-clause-moments
-returns-in_err-hand_over_much-clause-moments g c = handed g (goal.at.returns-in_err-hand_over_much-clause-moments g c).After-hand_over_much
+pub returns-in_err-flush_when_large-clause-moments : goal.returns-in_err-flush_when_large-clause-moments
+returns-in_err-flush_when_large-clause-moments g c = handed g (goal.at.returns-in_err-flush_when_large-clause-moments g c).After-flush_when_large
 
 pub returns-clause-moments : goal.returns-clause-moments
-returns-clause-moments g c = handed g (goal.at.returns-clause-moments g c).After-hand_over_much
+returns-clause-moments g c = handed g (goal.at.returns-clause-moments g c).After-flush_when_large
 
 pub returns-clause-calm : goal.returns-clause-calm
 returns-clause-calm g c = λ told honest calm.
-    calm_told (g.H.Host.files c.perform.new.host) (g.H.Host.files c.hand_over_much.new.host) c.perform.new.work.log.gated (c.hand_over_much.ensures.moments told) c.hand_over_much.ensures.files (c.in_ok-perform.ensures.calm told honest calm)
+    calm_told (g.H.Host.files c.perform.new.host) (g.H.Host.files c.flush_when_large.new.host) c.perform.new.work.log.gated (c.flush_when_large.ensures.moments told) c.flush_when_large.ensures.files (c.in_ok-perform.ensures.calm told honest calm)
 
 pub returns-clause-telling : goal.returns-clause-telling
 returns-clause-telling g c = λ told honest named least before t.
-    telling_handed least before (g.H.Host.files c.perform.new.host) (g.H.Host.files c.hand_over_much.new.host) (g.H.Host.written c.perform.new.host) (g.H.Host.written c.hand_over_much.new.host) c.perform.new.output c.hand_over_much.new.output c.perform.new.work.database.commits
-    c.hand_over_much.ensures.files (c.in_ok-hand_over_much.ensures.done told) (c.hand_over_much.ensures.front told).grown
-    (left g (goal.at.returns-clause-telling g c).After-hand_over_much told honest named least before t)
+    telling_handed least before (g.H.Host.files c.perform.new.host) (g.H.Host.files c.flush_when_large.new.host) (g.H.Host.written c.perform.new.host) (g.H.Host.written c.flush_when_large.new.host) c.perform.new.output c.flush_when_large.new.output c.perform.new.work.database.commits
+    c.flush_when_large.ensures.files (c.in_ok-flush_when_large.ensures.done told) (c.flush_when_large.ensures.front told).grown
+    (left g (goal.at.returns-clause-telling g c).After-flush_when_large told honest named least before t)

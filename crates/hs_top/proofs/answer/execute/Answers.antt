@@ -1,5 +1,5 @@
 use Rattle.std.proofs.Common.{◌≡◌, ◌++◌, Option, Some, inl, inr, sym, ap, subst, ◌∙◌}
-use Rattle.hs_host.specs.Moments.{Since, IsTold}
+use Rattle.hs_host.specs.Moments.{Since, IsPrinted}
 use Rattle.hs_host.proofs.Passing.{since_weaker}
 use Rattle.hs_top.specs.declared.statement.Statement.{Statement}
 use Rattle.hs_top.specs.declared.statement.Statement.TheVariants.{Create, Insert, Select}
@@ -20,7 +20,7 @@ asked g c told =
     let is : c.args.statement ≡ Some (Select c.in-Some-Select.table) = c.in-Some-Select.is ∙ ap Some c.in-Some-Select.field-0-is in
     since_weaker (c.select.ensures.moments told) (λ m t. inl (
       query_logs c.args.log.now.last c.args.session c.args.database.now c.args.statement c.in-Some-Select.table is,
-      subst (λ (s : Option Statement). IsTold (g.H.Host.history c.args.host.now).now (c.args.output.now ++ outcome_lines c.args.number c.args.name.now (performed c.args.database.now s)) m) (sym is) t,
+      subst (λ (s : Option Statement). IsPrinted (g.H.Host.history c.args.host.now).now (c.args.output.now ++ outcome_lines c.args.number c.args.name.now (performed c.args.database.now s)) m) (sym is) t,
     ))
 
 pub returns-in_err-select-in-Some-Select-clause-moments : goal.returns-in_err-select-in-Some-Select-clause-moments

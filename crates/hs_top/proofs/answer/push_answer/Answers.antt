@@ -3,11 +3,11 @@ use Rattle.hs_values.specs.declared.value.Value.{Value}
 use Rattle.hs_values.specs.Sorted.{sorted_rows}
 use Rattle.hs_top.specs.declared.reply.Reply.TheVariants.{Done}
 use Rattle.hs_top.specs.Lines.{rows_lines, reply_line, answer_lines}
-use Rattle.hs_top.specs.Machine.{WritesFront}
-use Rattle.hs_host.specs.Moments.{Since, IsTold}
+use Rattle.hs_top.specs.Machine.{WritesPrefix}
+use Rattle.hs_host.specs.Moments.{Since, IsPrinted}
 use Rattle.hs_host.proofs.Passing.{since_none}
 use Rattle.hs_top.proofs.Holding.{told_and}
-use Rattle.hs_top.proofs.Fronts.{front_more, nothing_yet, extended}
+use Rattle.hs_top.proofs.Prefixes.{front_more, nothing_yet, extended}
 use Rattle.hs_top.proofs.answer.push_answer.Goals as goal
 use Rattle.hs_top.proofs.answer.push_answer.Goals.{After-push_rows}
 
@@ -16,9 +16,9 @@ in_order : (g : _) (c : After-push_rows g) → map (λ r. r.now) c.as_slice.resu
 in_order g c = ap (map (λ r. r.now)) c.as_slice.ensures.value ∙ c.in_ok-rows.ensures
 
 front_of_rows : (g : _) (c : After-push_rows g) → g.H.Source.tells
-    → WritesFront (g.H.Host.written c.args.host.now) (g.H.Host.written c.push_rows.new.host) (c.args.output.now ++ answer_lines c.args.number c.args.session.now c.args.table.now)
+    → WritesPrefix (g.H.Host.written c.args.host.now) (g.H.Host.written c.push_rows.new.host) (c.args.output.now ++ answer_lines c.args.number c.args.session.now c.args.table.now)
 front_of_rows g c told =
-    let Q : List (List Value) → Type 0 = λ rows. WritesFront (g.H.Host.written c.args.host.now) (g.H.Host.written c.push_rows.new.host) (c.args.output.now ++ rows_lines c.args.number c.args.session.now rows) in
+    let Q : List (List Value) → Type 0 = λ rows. WritesPrefix (g.H.Host.written c.args.host.now) (g.H.Host.written c.push_rows.new.host) (c.args.output.now ++ rows_lines c.args.number c.args.session.now rows) in
     front_more _ _ c.args.output.now _ _ (subst Q (in_order g c) (c.push_rows.ensures.front told))
 
 pub returns-in_err-rows-clause-front : goal.returns-in_err-rows-clause-front
@@ -40,9 +40,9 @@ returns-clause-done g c = λ told.
     extended (g.H.Host.written c.push_rows.new.host) c.push_rows.new.output c.push_reply.new.self (g.H.Host.written c.args.host.now) c.args.output.now (rows_lines c.args.number c.args.session.now (sorted_rows c.args.table.now.rows)) _ (c.in_ok-push_rows.ensures.done told ∙ rows) (c.in_ok-push_reply.ensures ∙ reply)
 
 told_rows : (g : _) (c : After-push_rows g) → g.H.Source.tells
-    → Since (IsTold (g.H.Host.history c.args.host.now).now (c.args.output.now ++ answer_lines c.args.number c.args.session.now c.args.table.now)) (g.H.Host.history c.args.host.now) (g.H.Host.history c.push_rows.new.host)
+    → Since (IsPrinted (g.H.Host.history c.args.host.now).now (c.args.output.now ++ answer_lines c.args.number c.args.session.now c.args.table.now)) (g.H.Host.history c.args.host.now) (g.H.Host.history c.push_rows.new.host)
 told_rows g c told =
-    let Q : List (List Value) → Type 0 = λ rows. Since (IsTold (g.H.Host.history c.args.host.now).now (c.args.output.now ++ rows_lines c.args.number c.args.session.now rows)) (g.H.Host.history c.args.host.now) (g.H.Host.history c.push_rows.new.host) in
+    let Q : List (List Value) → Type 0 = λ rows. Since (IsPrinted (g.H.Host.history c.args.host.now).now (c.args.output.now ++ rows_lines c.args.number c.args.session.now rows)) (g.H.Host.history c.args.host.now) (g.H.Host.history c.push_rows.new.host) in
     told_and c.args.output.now _ _ (subst Q (in_order g c) (c.push_rows.ensures.moments told))
 
 pub returns-in_err-rows-clause-moments : goal.returns-in_err-rows-clause-moments

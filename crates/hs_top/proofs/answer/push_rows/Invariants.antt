@@ -1,5 +1,5 @@
 use Rattle.std.proofs.Common.{◌≡◌, ◌≤◌, ◌++◌, length, map, drop}
-use Rattle.hs_host.specs.Moments.{Since, IsTold}
+use Rattle.hs_host.specs.Moments.{Since, IsPrinted}
 use Rattle.hs_top.specs.Lines.{rows_lines}
 use Rattle.hs_top.proofs.answer.push_rows.Given as goal
 
@@ -9,7 +9,7 @@ invariant-loop-row g l =
     record {
       so_far : g.H.Source.tells → written l.host ++ (l.output ++ rows_lines l.number l.session (map (λ r. r.now) (drop l.row-index l.rows))) ≡ written l.fn.host ++ (l.fn.output ++ rows_lines l.number l.session (map (λ r. r.now) l.fn.rows));
       grown : g.H.Source.tells → length (written l.fn.host) ≤ length (written l.host);
-      moments : g.H.Source.tells → Since (IsTold (g.H.Host.history l.fn.host).now (l.fn.output ++ rows_lines l.number l.session (map (λ r. r.now) l.fn.rows))) (g.H.Host.history l.fn.host) (g.H.Host.history l.host);
+      moments : g.H.Source.tells → Since (IsPrinted (g.H.Host.history l.fn.host).now (l.fn.output ++ rows_lines l.number l.session (map (λ r. r.now) l.fn.rows))) (g.H.Host.history l.fn.host) (g.H.Host.history l.host);
       later : g.H.Host.output_faults l.fn.host ≤ g.H.Host.output_faults l.host;
       unread : g.H.Source.unread l.host ≡ g.H.Source.unread l.fn.host;
       faults : g.H.Source.input_faults l.host ≡ g.H.Source.input_faults l.fn.host;

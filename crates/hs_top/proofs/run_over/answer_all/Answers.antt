@@ -4,7 +4,7 @@ use Rattle.hs_entries.specs.declared.item.Item.{Item}
 use Rattle.hs_entries.specs.Items.{items, whole_items}
 use Rattle.hs_entries.specs.Reader.{left_items, left_whole}
 use Rattle.hs_top.specs.Lines.{opened_line}
-use Rattle.hs_top.specs.Machine.{State, WritesFront, machine, transcript, rest_of, lines_of, texts_of}
+use Rattle.hs_top.specs.Machine.{State, WritesPrefix, machine, transcript, rest_of, lines_of, texts_of}
 use Rattle.hs_top.specs.Opening.{opened_by, begun_with, texts_from, IsWholeLog}
 use Rattle.hs_host.specs.declared.file_kind.FileKind.TheVariants.{Log}
 use Rattle.hs_top.specs.Running.{machine_of, state_of, texts_in, IsTooLong}
@@ -12,13 +12,13 @@ use Rattle.hs_host.specs.Moments.{Since}
 use Rattle.hs_host.proofs.Passing.{since_none, since_weaker, since_join}
 use Rattle.hs_top.specs.Holding.{IsHeld, IsGathered}
 use Rattle.hs_top.proofs.Holding.{first_gathered, last_gathered, held_telling}
-use Rattle.hs_top.proofs.Fronts.{nothing_yet, front_after}
+use Rattle.hs_top.proofs.Prefixes.{nothing_yet, front_after}
 use Rattle.hs_top.proofs.Logged.{whole_log}
 use Rattle.hs_top.proofs.Runs.{rest_of-over, texts_of-over}
 use Rattle.hs_top.proofs.Taken.{fresh_items, fresh_whole}
 use Rattle.hs_top.proofs.Turns.{ended}
 use Rattle.hs_top.proofs.run_over.answer_all.Goals as goal
-use Rattle.hs_top.proofs.run_over.answer_all.Goals.{After-new-2, After-turn, After-hand_over}
+use Rattle.hs_top.proofs.run_over.answer_all.Goals.{After-new-2, After-turn, After-flush}
 
 pub returns-in_err-push_opened-clause-front : goal.returns-in_err-push_opened-clause-front
 returns-in_err-push_opened-clause-front g c = λ told. nothing_yet _ _
@@ -74,7 +74,7 @@ loop-running-init g c =
     }
 
 -- all that is gathered at the end is all that is left
-whole : (g : _) (c : After-hand_over g) → g.H.Source.tells
+whole : (g : _) (c : After-flush g) → g.H.Source.tells
     → g.H.Host.written c.turn.new.host ++ c.push_closed.new.self ≡ g.H.Host.written c.args.host.now ++ transcript (begun_with (opened_by c.args.opening)) (g.H.Source.unread c.args.host.now)
 whole g c told =
     ended (g.H.Host.written c.turn.new.host) c.turn.new.self.output c.push_closed.new.self (rest_of (machine_of c.turn.new.self (g.H.Source.unread c.turn.new.host))) _ _
@@ -82,20 +82,20 @@ whole g c told =
     (rest_of-over _ (state_of c.turn.new.self.work) (c.in_ok-turn.ensures.over told c.if-branch.false))
     c.in_ok-push_closed.ensures
 
-front_of_whole : (g : _) (c : After-hand_over g) → g.H.Source.tells
-    → WritesFront (g.H.Host.written c.args.host.now) (g.H.Host.written c.hand_over.new.host) (transcript (begun_with (opened_by c.args.opening)) (g.H.Source.unread c.args.host.now))
+front_of_whole : (g : _) (c : After-flush g) → g.H.Source.tells
+    → WritesPrefix (g.H.Host.written c.args.host.now) (g.H.Host.written c.flush.new.host) (transcript (begun_with (opened_by c.args.opening)) (g.H.Source.unread c.args.host.now))
 front_of_whole g c told =
     front_after (g.H.Host.written c.args.host.now) (g.H.Host.written c.turn.new.host) _ c.push_closed.new.self _ (whole g c told)
-    (omega (arith, c.loop-running.invariant.grown told, (c.turn.ensures.front told).grown)) (c.hand_over.ensures.front told)
+    (omega (arith, c.loop-running.invariant.grown told, (c.turn.ensures.front told).grown)) (c.flush.ensures.front told)
 
-pub returns-in_err-hand_over-clause-front : goal.returns-in_err-hand_over-clause-front
-returns-in_err-hand_over-clause-front g c = front_of_whole g (goal.at.returns-in_err-hand_over-clause-front g c).After-hand_over
+pub returns-in_err-flush-clause-front : goal.returns-in_err-flush-clause-front
+returns-in_err-flush-clause-front g c = front_of_whole g (goal.at.returns-in_err-flush-clause-front g c).After-flush
 
 pub returns-clause-front : goal.returns-clause-front
-returns-clause-front g c = front_of_whole g (goal.at.returns-clause-front g c).After-hand_over
+returns-clause-front g c = front_of_whole g (goal.at.returns-clause-front g c).After-flush
 
 pub returns-clause-done : goal.returns-clause-done
-returns-clause-done g c = λ told. c.in_ok-hand_over.ensures.done told ∙ whole g (goal.at.returns-clause-done g c).After-hand_over told
+returns-clause-done g c = λ told. c.in_ok-flush.ensures.done told ∙ whole g (goal.at.returns-clause-done g c).After-flush told
 
 pub returns-clause-log : goal.returns-clause-log
 returns-clause-log g c = λ told honest.
@@ -104,7 +104,7 @@ returns-clause-log g c = λ told honest.
     let all = sym (append-nil (texts_in (g.H.Host.files c.turn.new.host))) ∙ sym (ap (λ (l : List (List ℕ)). texts_in (g.H.Host.files c.turn.new.host) ++ l) over)
     ∙ c.in_ok-turn.ensures.texts told still ∙ c.loop-running.invariant.texts told honest in
     let at_turn = subst (IsWholeLog (g.H.Host.files c.turn.new.host).log) all (whole_log (g.H.Host.files c.turn.new.host) c.turn.new.self.work.log c.in_ok-turn.ensures.sane.work.sound (c.in_ok-turn.ensures.logged told still)) in
-    subst (λ (f : Five (List ℕ)). IsWholeLog f.log (texts_in (g.H.Host.files c.args.host.now) ++ texts_from (opened_by c.args.opening) (g.H.Source.unread c.args.host.now))) (sym c.hand_over.ensures.files) at_turn
+    subst (λ (f : Five (List ℕ)). IsWholeLog f.log (texts_in (g.H.Host.files c.args.host.now) ++ texts_from (opened_by c.args.opening) (g.H.Source.unread c.args.host.now))) (sym c.flush.ensures.files) at_turn
 
 -- the moments of one turn more
 turned : (g : _) (c : After-turn g) → g.H.Source.tells → IsHonest (g.H.Host.standing c.args.host.now)
@@ -118,9 +118,9 @@ turned g c told honest =
     (c.turn.ensures.moments told still (i.calm told honest) _ _ (i.telling told honest)))
 
 -- and until the last line is handed over
-ended_moments : (g : _) (c : After-hand_over g) → g.H.Source.tells → IsHonest (g.H.Host.standing c.args.host.now)
+ended_moments : (g : _) (c : After-flush g) → g.H.Source.tells → IsHonest (g.H.Host.standing c.args.host.now)
     → Since (IsHeld (length (texts_in (g.H.Host.files c.args.host.now))) (texts_in (g.H.Host.files c.args.host.now) ++ texts_from (opened_by c.args.opening) (g.H.Source.unread c.args.host.now)) (g.H.Host.written c.args.host.now))
-    (g.H.Host.history c.args.host.now) (g.H.Host.history c.hand_over.new.host)
+    (g.H.Host.history c.args.host.now) (g.H.Host.history c.flush.new.host)
 ended_moments g c told honest =
     let i = c.loop-running.invariant in
     let ok = c.in_ok-turn.ensures in
@@ -135,8 +135,8 @@ ended_moments g c told honest =
     sym (ap (λ (l : List (List ℕ)). texts_in files ++ l) over) ∙ ok.texts told still ∙ i.texts told honest in
     let out = sym (g.met.H.Host.output_now c.turn.new.host told) in
     let all = subst (λ (o : List ℕ). IsGathered before o c.push_closed.new.self work.database.commits) out (last_gathered before _ c.turn.new.self.output c.push_closed.new.self work.database.commits work.database.commits c.in_ok-push_closed.ensures t.gathered) in
-    since_join (turned g (goal.at.After-hand_over g c).After-turn told honest)
-    (since_weaker (c.hand_over.ensures.moments told)
+    since_join (turned g (goal.at.After-flush g c).After-turn told honest)
+    (since_weaker (c.flush.ensures.moments told)
     (λ m telling. subst (λ (ts : List (List ℕ)). IsHeld least ts before m) texts
     (held_telling files (g.H.Host.history c.turn.new.host) work.log ok.sane.work.sound (ok.logged told still) (ok.calm told still (i.calm told honest)) least before work.database.commits t.enough t.counted c.push_closed.new.self [] m all telling)))
 
@@ -146,11 +146,11 @@ returns-in_err-turn-clause-moments g c = turned g (goal.at.returns-in_err-turn-c
 pub returns-in_err-push_closed-clause-moments : goal.returns-in_err-push_closed-clause-moments
 returns-in_err-push_closed-clause-moments g c = turned g (goal.at.returns-in_err-push_closed-clause-moments g c).After-turn
 
-pub returns-in_err-hand_over-clause-moments : goal.returns-in_err-hand_over-clause-moments
-returns-in_err-hand_over-clause-moments g c = ended_moments g (goal.at.returns-in_err-hand_over-clause-moments g c).After-hand_over
+pub returns-in_err-flush-clause-moments : goal.returns-in_err-flush-clause-moments
+returns-in_err-flush-clause-moments g c = ended_moments g (goal.at.returns-in_err-flush-clause-moments g c).After-flush
 
 pub returns-clause-moments : goal.returns-clause-moments
-returns-clause-moments g c = ended_moments g (goal.at.returns-clause-moments g c).After-hand_over
+returns-clause-moments g c = ended_moments g (goal.at.returns-clause-moments g c).After-flush
 
 pub loop-running-preserved : goal.loop-running-preserved
 loop-running-preserved g c =

@@ -2,7 +2,7 @@ use Rattle.std.proofs.Common.{◌≡◌, ◌+◌, ◌^◌, ◌≤◌, ◌++◌, 
 use Rattle.hs_host.specs.Files.{IsHonest}
 use Rattle.hs_host.specs.Moments.{Since}
 use Rattle.hs_gate.specs.Crash.{IsCalm}
-use Rattle.hs_top.specs.Holding.{IsHeld, IsTelling}
+use Rattle.hs_top.specs.Holding.{IsHeld, IsAcknowledging}
 use Rattle.hs_entries.specs.Reader.{ahead, room}
 use Rattle.hs_top.specs.Machine.{transcript, transcript_within, rest_of, lines_of, texts_of}
 use Rattle.hs_top.specs.Opening.{opened_by, begun_with, texts_from}
@@ -22,7 +22,7 @@ invariant-loop-running g l =
       texts : g.H.Source.tells → IsHonest (g.H.Host.standing l.fn.host) → texts_in (files l.host) ++ texts_of (machine_of l.running (unread l.host)) ≡ texts_in (files l.fn.host) ++ texts_from (opened_by l.fn.opening) (unread l.fn.host);
       logged : g.H.Source.tells → IsHonest (g.H.Host.standing l.fn.host) → IsLog (files l.host) l.running.work.log;
       calm : g.H.Source.tells → IsHonest (g.H.Host.standing l.fn.host) → IsCalm (g.H.Host.history l.host) (files l.host) l.running.work.log.gated;
-      telling : g.H.Source.tells → IsHonest (g.H.Host.standing l.fn.host) → IsTelling (length (texts_in (files l.fn.host))) (written l.fn.host) (files l.host) (written l.host) l.running.output l.running.work.database.commits;
+      telling : g.H.Source.tells → IsHonest (g.H.Host.standing l.fn.host) → IsAcknowledging (length (texts_in (files l.fn.host))) (written l.fn.host) (files l.host) (written l.host) l.running.output l.running.work.database.commits;
       moments : g.H.Source.tells → IsHonest (g.H.Host.standing l.fn.host) → Since (IsHeld (length (texts_in (files l.fn.host))) (texts_in (files l.fn.host) ++ texts_from (opened_by l.fn.opening) (unread l.fn.host)) (written l.fn.host)) (g.H.Host.history l.fn.host) (g.H.Host.history l.host);
       others : g.H.Source.tells → IsHonest (g.H.Host.standing l.fn.host) → OnlyLog (files l.fn.host) (files l.host);
       grown : g.H.Source.tells → length (written l.fn.host) ≤ length (written l.host);

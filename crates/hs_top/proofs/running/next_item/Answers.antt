@@ -1,21 +1,21 @@
 use Rattle.std.proofs.Common.{ℕ, List, [], ◌++◌, ap, ◌∙◌, append-nil}
-use Rattle.hs_host.specs.Moments.{Since, IsTold}
+use Rattle.hs_host.specs.Moments.{Since, IsPrinted}
 use Rattle.hs_top.proofs.Holding.{told_join, told_still}
 use Rattle.hs_top.proofs.running.next_item.Goals as goal
-use Rattle.hs_top.proofs.running.next_item.Goals.{After-read_next, After-hand_over}
+use Rattle.hs_top.proofs.running.next_item.Goals.{After-read_next, After-flush}
 
 -- the moments until the item is read
-read : (g : _) (c : After-read_next g) → g.H.Source.tells → Since (IsTold (g.H.Host.history c.args.host.now).now c.args.output.now) (g.H.Host.history c.args.host.now) (g.H.Host.history c.read_next.new.host)
-read g c told = told_still c.args.output.now (c.hand_over_unless_ready.ensures.moments told) (c.read_next.ensures.moments told)
+read : (g : _) (c : After-read_next g) → g.H.Source.tells → Since (IsPrinted (g.H.Host.history c.args.host.now).now c.args.output.now) (g.H.Host.history c.args.host.now) (g.H.Host.history c.read_next.new.host)
+read g c told = told_still c.args.output.now (c.flush_unless_ready.ensures.moments told) (c.read_next.ensures.moments told)
 
 -- and until what is gathered is handed over
-handed : (g : _) (c : After-hand_over g) → g.H.Source.tells → Since (IsTold (g.H.Host.history c.args.host.now).now c.args.output.now) (g.H.Host.history c.args.host.now) (g.H.Host.history c.hand_over.new.host)
+handed : (g : _) (c : After-flush g) → g.H.Source.tells → Since (IsPrinted (g.H.Host.history c.args.host.now).now c.args.output.now) (g.H.Host.history c.args.host.now) (g.H.Host.history c.flush.new.host)
 handed g c told =
-    told_join (g.H.Host.written c.args.host.now) (g.H.Host.written c.hand_over_unless_ready.new.host) c.hand_over_unless_ready.new.output [] c.args.output.now
+    told_join (g.H.Host.written c.args.host.now) (g.H.Host.written c.flush_unless_ready.new.host) c.flush_unless_ready.new.output [] c.args.output.now
     (g.met.H.Host.output_now c.args.host.now told) (g.met.H.Host.output_now c.read_next.new.host told ∙ c.read_next.ensures.written)
-    (told_still c.args.output.now (c.hand_over_unless_ready.ensures.moments told) (c.read_next.ensures.moments told))
-    (ap (λ (l : List ℕ). g.H.Host.written c.hand_over_unless_ready.new.host ++ l) (append-nil c.hand_over_unless_ready.new.output) ∙ c.in_ok-hand_over_unless_ready.ensures.done told)
-    (c.hand_over_unless_ready.ensures.front told).grown (c.hand_over.ensures.moments told)
+    (told_still c.args.output.now (c.flush_unless_ready.ensures.moments told) (c.read_next.ensures.moments told))
+    (ap (λ (l : List ℕ). g.H.Host.written c.flush_unless_ready.new.host ++ l) (append-nil c.flush_unless_ready.new.output) ∙ c.in_ok-flush_unless_ready.ensures.done told)
+    (c.flush_unless_ready.ensures.front told).grown (c.flush.ensures.moments told)
 
 pub returns-in-Ok-clause-moments : goal.returns-in-Ok-clause-moments
 returns-in-Ok-clause-moments g c = read g (goal.at.returns-in-Ok-clause-moments g c).After-read_next
@@ -26,8 +26,8 @@ returns-in-Err-Fault-clause-moments g c = read g (goal.at.returns-in-Err-Fault-c
 pub returns-in-Err-NoMemory-clause-moments : goal.returns-in-Err-NoMemory-clause-moments
 returns-in-Err-NoMemory-clause-moments g c = read g (goal.at.returns-in-Err-NoMemory-clause-moments g c).After-read_next
 
-pub returns-in_err-hand_over-in-Err-TooLong-clause-moments : goal.returns-in_err-hand_over-in-Err-TooLong-clause-moments
-returns-in_err-hand_over-in-Err-TooLong-clause-moments g c = handed g (goal.at.returns-in_err-hand_over-in-Err-TooLong-clause-moments g c).After-hand_over
+pub returns-in_err-flush-in-Err-TooLong-clause-moments : goal.returns-in_err-flush-in-Err-TooLong-clause-moments
+returns-in_err-flush-in-Err-TooLong-clause-moments g c = handed g (goal.at.returns-in_err-flush-in-Err-TooLong-clause-moments g c).After-flush
 
-pub returns-in_ok-hand_over-in-Err-TooLong-clause-moments : goal.returns-in_ok-hand_over-in-Err-TooLong-clause-moments
-returns-in_ok-hand_over-in-Err-TooLong-clause-moments g c = handed g (goal.at.returns-in_ok-hand_over-in-Err-TooLong-clause-moments g c).After-hand_over
+pub returns-in_ok-flush-in-Err-TooLong-clause-moments : goal.returns-in_ok-flush-in-Err-TooLong-clause-moments
+returns-in_ok-flush-in-Err-TooLong-clause-moments g c = handed g (goal.at.returns-in_ok-flush-in-Err-TooLong-clause-moments g c).After-flush

@@ -5,12 +5,12 @@ use Rattle.hs_host.specs.Moments.{Since}
 use Rattle.hs_host.proofs.Passing.{since_weaker, since_join}
 use Rattle.hs_gate.specs.Crash.{IsCalm}
 use Rattle.hs_entries.specs.Reader.{ahead, left_items, left_whole, next_number}
-use Rattle.hs_top.specs.Holding.{IsHeld, IsGathered, IsTelling}
-use Rattle.hs_top.specs.Told.{IsNamed, Each}
+use Rattle.hs_top.specs.Holding.{IsHeld, IsGathered, IsAcknowledging}
+use Rattle.hs_top.specs.Acknowledged.{IsNamed, Each}
 use Rattle.hs_top.proofs.Holding.{calm_told, held_telling, telling_handed}
-use Rattle.hs_top.proofs.Told.{items_named}
+use Rattle.hs_top.proofs.Acknowledged.{items_named}
 use Rattle.hs_top.specs.declared.status.Status.TheVariants.{InputTooLong}
-use Rattle.hs_top.specs.Machine.{State, WritesFront, machine, step_of, rest_of, texts_of}
+use Rattle.hs_top.specs.Machine.{State, WritesPrefix, machine, step_of, rest_of, texts_of}
 use Rattle.hs_top.specs.Running.{machine_of, state_of, texts_in}
 use Rattle.hs_top.proofs.Runs.{rest_of-turn, lines_of-turn, texts_of-turn, lines_of-over}
 use Rattle.hs_top.proofs.Taken.{taken, taken_whole, none_before, ended, none_left}
@@ -32,7 +32,7 @@ goes_on : (g : _) (c : After-answer g) → g.H.Source.tells → (after : State) 
 goes_on g c told after done = rest_of-turn _ _ c.in-Ok.item (state_of c.args.self.now.work) after (next g c told) done
 
 front_of_turn : (g : _) (c : After-answer g) → g.H.Source.tells
-    → WritesFront (g.H.Host.written c.args.host.now) (g.H.Host.written c.answer.new.host) (c.args.self.now.output ++ rest_of (machine (left_items c.args.self.now.reader (g.H.Source.unread c.args.host.now)) (state_of c.args.self.now.work)))
+    → WritesPrefix (g.H.Host.written c.args.host.now) (g.H.Host.written c.answer.new.host) (c.args.self.now.output ++ rest_of (machine (left_items c.args.self.now.reader (g.H.Source.unread c.args.host.now)) (state_of c.args.self.now.work)))
 front_of_turn g c told =
     turning (g.H.Host.written c.args.host.now) c.args.self.now.output (g.H.Host.written c.next_item.new.host) c.next_item.new.output (g.H.Host.written c.answer.new.host) _ _ _
     (c.in-Ok.ensures.done told) (c.next_item.ensures.front told).grown (c.answer.ensures.front told) (goes_on g c told _ refl)
@@ -101,7 +101,7 @@ returns-in-Err-clause-too_long g c = λ told same.
 
 -- the moments while the item is read
 reading : (g : _) (c : After-next_item g) → g.H.Source.tells → IsHonest (g.H.Host.standing c.args.host.now) → IsCalm (g.H.Host.history c.args.host.now) (g.H.Host.files c.args.host.now) c.args.self.now.work.log.gated
-    → (least : ℕ) (before : List ℕ) → IsTelling least before (g.H.Host.files c.args.host.now) (g.H.Host.written c.args.host.now) c.args.self.now.output c.args.self.now.work.database.commits
+    → (least : ℕ) (before : List ℕ) → IsAcknowledging least before (g.H.Host.files c.args.host.now) (g.H.Host.written c.args.host.now) c.args.self.now.output c.args.self.now.work.database.commits
     → Since (IsHeld least (texts_in (g.H.Host.files c.args.host.now) ++ texts_of (machine_of c.args.self.now (g.H.Source.unread c.args.host.now))) before) (g.H.Host.history c.args.host.now) (g.H.Host.history c.next_item.new.host)
 reading g c told honest calm least before t =
     let work = c.args.self.now.work in
@@ -115,8 +115,8 @@ calm_read : (g : _) (c : In-Ok g) → g.H.Source.tells → IsCalm (g.H.Host.hist
     → IsCalm (g.H.Host.history c.next_item.new.host) (g.H.Host.files c.next_item.new.host) c.args.self.now.work.log.gated
 calm_read g c told = calm_told (g.H.Host.files c.args.host.now) (g.H.Host.files c.next_item.new.host) c.args.self.now.work.log.gated (c.next_item.ensures.moments told) c.next_item.ensures.files
 
-telling_read : (g : _) (c : In-Ok g) → g.H.Source.tells → (least : ℕ) (before : List ℕ) → IsTelling least before (g.H.Host.files c.args.host.now) (g.H.Host.written c.args.host.now) c.args.self.now.output c.args.self.now.work.database.commits
-    → IsTelling least before (g.H.Host.files c.next_item.new.host) (g.H.Host.written c.next_item.new.host) c.next_item.new.output c.args.self.now.work.database.commits
+telling_read : (g : _) (c : In-Ok g) → g.H.Source.tells → (least : ℕ) (before : List ℕ) → IsAcknowledging least before (g.H.Host.files c.args.host.now) (g.H.Host.written c.args.host.now) c.args.self.now.output c.args.self.now.work.database.commits
+    → IsAcknowledging least before (g.H.Host.files c.next_item.new.host) (g.H.Host.written c.next_item.new.host) c.next_item.new.output c.args.self.now.work.database.commits
 telling_read g c told least before =
     telling_handed least before (g.H.Host.files c.args.host.now) (g.H.Host.files c.next_item.new.host) (g.H.Host.written c.args.host.now) (g.H.Host.written c.next_item.new.host) c.args.self.now.output c.next_item.new.output c.args.self.now.work.database.commits
     c.next_item.ensures.files (c.in-Ok.ensures.done told) (c.next_item.ensures.front told).grown
@@ -129,7 +129,7 @@ named g c told = (subst (Each IsNamed) (next g c told) (items_named (next_number
 
 -- the moments of the turn
 turning_moments : (g : _) (c : After-answer g) → g.H.Source.tells → IsHonest (g.H.Host.standing c.args.host.now) → IsCalm (g.H.Host.history c.args.host.now) (g.H.Host.files c.args.host.now) c.args.self.now.work.log.gated
-    → (least : ℕ) (before : List ℕ) → IsTelling least before (g.H.Host.files c.args.host.now) (g.H.Host.written c.args.host.now) c.args.self.now.output c.args.self.now.work.database.commits
+    → (least : ℕ) (before : List ℕ) → IsAcknowledging least before (g.H.Host.files c.args.host.now) (g.H.Host.written c.args.host.now) c.args.self.now.output c.args.self.now.work.database.commits
     → Since (IsHeld least (texts_in (g.H.Host.files c.args.host.now) ++ texts_of (machine_of c.args.self.now (g.H.Source.unread c.args.host.now))) before) (g.H.Host.history c.args.host.now) (g.H.Host.history c.answer.new.host)
 turning_moments g c told honest calm least before t =
     let at = (goal.at.After-answer g c).In-Ok in

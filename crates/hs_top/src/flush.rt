@@ -1,8 +1,8 @@
 // Hands output over to the host.
 ghost use Rattle.std.specs.Prelude.{◌≡◌, ◌⊎◌, ℕ, ◌≤◌, [], List, ◌++◌, false, OnOk, IfErr, IsErrOf};
 ghost use Rattle.hs_host.specs.Host.{HasCause, Rose};
-ghost use Rattle.hs_host.specs.Moments.{Since, IsTold};
-ghost use Rattle.hs_top.specs.Machine.{WritesFront};
+ghost use Rattle.hs_host.specs.Moments.{Since, IsPrinted};
+ghost use Rattle.hs_top.specs.Machine.{WritesPrefix};
 ghost use Rattle.hs_top.specs.Running.{is_damaged};
 
 use crate::output::Output;
@@ -13,11 +13,11 @@ use hs_host::{Host, HostFault};
 const MOST_GATHERED: usize = 65_536;
 
 /// Hands over all that is gathered.
-pub fn hand_over<H: Host>(output: &mut Output, host: &mut H) -> Result<(), Status>
+pub fn flush<H: Host>(output: &mut Output, host: &mut H) -> Result<(), Status>
     ensures empty { OnOk result (output.new ≡ []) }
     ensures done { H.tells → OnOk result (H.written host.new ≡ H.written host.old ++ output.old) }
-    ensures front { H.tells → WritesFront (H.written host.old) (H.written host.new) output.old }
-    ensures moments { H.tells → Since (IsTold (H.history host.old).now output.old) (H.history host.old) (H.history host.new) }
+    ensures front { H.tells → WritesPrefix (H.written host.old) (H.written host.new) output.old }
+    ensures moments { H.tells → Since (IsPrinted (H.history host.old).now output.old) (H.history host.old) (H.history host.new) }
     ensures output_fault { IsErrOf result Status.OutputFault → Rose (H.output_faults host.old) (H.output_faults host.new) }
     ensures only { IsErrOf result Status.Done ⊎ (IsErrOf result Status.Usage ⊎ (IsErrOf result Status.InputFault ⊎ (IsErrOf result Status.DiskFault ⊎ IsErrOf result Status.InputTooLong))) → ⊥ }
     ensures whole { IfErr result (λ status. is_damaged status ≡ false) }
@@ -34,11 +34,11 @@ pub fn hand_over<H: Host>(output: &mut Output, host: &mut H) -> Result<(), Statu
 }
 
 /// Hands over what is gathered, where it is much.
-#[tactic(auto, using(crate::proofs::Fronts::nothing_yet, hs_host::proofs::Passing::since_none))]
-pub fn hand_over_much<H: Host>(output: &mut Output, host: &mut H) -> Result<(), Status>
+#[tactic(auto, using(crate::proofs::Prefixes::nothing_yet, hs_host::proofs::Passing::since_none))]
+pub fn flush_when_large<H: Host>(output: &mut Output, host: &mut H) -> Result<(), Status>
     ensures done { H.tells → OnOk result (H.written host.new ++ output.new ≡ H.written host.old ++ output.old) }
-    ensures front { H.tells → WritesFront (H.written host.old) (H.written host.new) output.old }
-    ensures moments { H.tells → Since (IsTold (H.history host.old).now output.old) (H.history host.old) (H.history host.new) }
+    ensures front { H.tells → WritesPrefix (H.written host.old) (H.written host.new) output.old }
+    ensures moments { H.tells → Since (IsPrinted (H.history host.old).now output.old) (H.history host.old) (H.history host.new) }
     ensures output_fault { IsErrOf result Status.OutputFault → Rose (H.output_faults host.old) (H.output_faults host.new) }
     ensures only { IsErrOf result Status.Done ⊎ (IsErrOf result Status.Usage ⊎ (IsErrOf result Status.InputFault ⊎ (IsErrOf result Status.DiskFault ⊎ IsErrOf result Status.InputTooLong))) → ⊥ }
     ensures whole { IfErr result (λ status. is_damaged status ≡ false) }
@@ -52,14 +52,14 @@ pub fn hand_over_much<H: Host>(output: &mut Output, host: &mut H) -> Result<(), 
     if output.len() < MOST_GATHERED {
         return Ok(());
     }
-    hand_over(output, host)
+    flush(output, host)
 }
 
 // Writes all the bytes.
 fn write_all<H: Host>(host: &mut H, bytes: &[u8]) -> Result<(), Status>
     ensures done { H.tells → OnOk result (H.written host.new ≡ H.written host.old ++ bytes.now) }
-    ensures front { H.tells → WritesFront (H.written host.old) (H.written host.new) bytes.now }
-    ensures moments { H.tells → Since (IsTold (H.history host.old).now bytes.now) (H.history host.old) (H.history host.new) }
+    ensures front { H.tells → WritesPrefix (H.written host.old) (H.written host.new) bytes.now }
+    ensures moments { H.tells → Since (IsPrinted (H.history host.old).now bytes.now) (H.history host.old) (H.history host.new) }
     ensures output_fault { IsErrOf result Status.OutputFault → Rose (H.output_faults host.old) (H.output_faults host.new) }
     ensures only { IsErrOf result Status.Done ⊎ (IsErrOf result Status.Usage ⊎ (IsErrOf result Status.InputFault ⊎ (IsErrOf result Status.DiskFault ⊎ IsErrOf result Status.InputTooLong))) → ⊥ }
     ensures whole { IfErr result (λ status. is_damaged status ≡ false) }

@@ -1,9 +1,9 @@
 -- Fronts of what is to be written.
 use Rattle.std.proofs.Common.{◌≡◌, ℕ, ◌≤◌, List, [], ◌∷◌, ◌++◌, length, refl, sym, ◌∙◌, ap, arith, append_assoc, append-nil, length-append}
-use Rattle.hs_top.specs.Machine.{WritesFront}
+use Rattle.hs_top.specs.Machine.{WritesPrefix}
 
--- a front of a piece that stands first in what is left is a front of the whole
-pub front_on : (old mid new piece more whole : List ℕ) → mid ++ (piece ++ more) ≡ old ++ whole → length old ≤ length mid → WritesFront mid new piece → WritesFront old new whole
+-- a prefix of a piece that stands first in what is left is a prefix of the whole
+pub front_on : (old mid new piece more whole : List ℕ) → mid ++ (piece ++ more) ≡ old ++ whole → length old ≤ length mid → WritesPrefix mid new piece → WritesPrefix old new whole
 front_on old mid new piece more whole left grown front = record {
   rest = front.rest ++ more;
   is = sym (append_assoc new front.rest more) ∙ ap (λ (l : List ℕ). l ++ more) front.is ∙ append_assoc mid piece more ∙ left;
@@ -11,23 +11,23 @@ front_on old mid new piece more whole left grown front = record {
 }
 
 -- nothing written is a front
-pub nothing_yet : (old whole : List ℕ) → WritesFront old old whole
+pub nothing_yet : (old whole : List ℕ) → WritesPrefix old old whole
 nothing_yet old whole = record { rest = whole; is = refl; grown = omega arith }
 
 -- a whole is its front
-pub whole_front : (old new whole : List ℕ) → new ≡ old ++ whole → WritesFront old new whole
+pub whole_front : (old new whole : List ℕ) → new ≡ old ++ whole → WritesPrefix old new whole
 whole_front old new whole is = record { rest = []; is = append-nil new ∙ is; grown = omega (arith, ap length is, length-append old whole) }
 
--- a front of what is gathered is a front of it and more
-pub front_more : (old new before piece more : List ℕ) → WritesFront old new (before ++ piece) → WritesFront old new (before ++ (piece ++ more))
+-- a prefix of what is gathered is a prefix of it and more
+pub front_more : (old new before piece more : List ℕ) → WritesPrefix old new (before ++ piece) → WritesPrefix old new (before ++ (piece ++ more))
 front_more old new before piece more front = record {
   rest = front.rest ++ more;
   is = sym (append_assoc new front.rest more) ∙ ap (λ (l : List ℕ). l ++ more) front.is ∙ append_assoc old (before ++ piece) more ∙ ap (λ (l : List ℕ). old ++ l) (append_assoc before piece more);
   grown = front.grown;
 }
 
--- a front of what is gathered, where something was handed over before
-pub front_after : (old mid new piece whole : List ℕ) → mid ++ piece ≡ old ++ whole → length old ≤ length mid → WritesFront mid new piece → WritesFront old new whole
+-- a prefix of what is gathered, where something was handed over before
+pub front_after : (old mid new piece whole : List ℕ) → mid ++ piece ≡ old ++ whole → length old ≤ length mid → WritesPrefix mid new piece → WritesPrefix old new whole
 front_after old mid new piece whole left grown front = record { rest = front.rest; is = front.is ∙ left; grown = omega (arith, grown, front.grown) }
 
 -- what is gathered now stands first in what was left

@@ -1,12 +1,12 @@
 use Rattle.std.proofs.lemmas.Grind.{common_steps}
 use Rattle.std.proofs.Common.{◌≡◌, ℕ, List, [], ◌++◌, length, take, ap, ◌∙◌, arith, append-nil, length-append}
-use Rattle.hs_host.specs.Moments.{Since, IsTold}
+use Rattle.hs_host.specs.Moments.{Since, IsPrinted}
 use Rattle.hs_top.proofs.Holding.{told_join}
-use Rattle.hs_top.proofs.hand_over.write_all.Goals as goal
-use Rattle.hs_top.proofs.hand_over.write_all.Goals.{After-write_output}
+use Rattle.hs_top.proofs.flush.write_all.Goals as goal
+use Rattle.hs_top.proofs.flush.write_all.Goals.{After-write_output}
 
 -- one call more
-on : (g : _) (c : After-write_output g) → g.H.Source.tells → Since (IsTold (g.H.Host.history c.args.host.now).now c.args.bytes.now) (g.H.Host.history c.args.host.now) (g.H.Host.history c.write_output.new.self)
+on : (g : _) (c : After-write_output g) → g.H.Source.tells → Since (IsPrinted (g.H.Host.history c.args.host.now).now c.args.bytes.now) (g.H.Host.history c.args.host.now) (g.H.Host.history c.write_output.new.self)
 on g c told =
     let i = c.loop-rest.invariant in
     told_join (g.H.Host.written c.args.host.now) (g.H.Host.written c.loop-rest.host) c.loop-rest.rest.now [] c.args.bytes.now

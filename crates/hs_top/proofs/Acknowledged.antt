@@ -32,18 +32,18 @@ use Rattle.hs_top.specs.CommitText.{commit_text}
 use Rattle.hs_top.specs.Database.{Outcome, performed, executed, created, inserted, selected, refused, committed, with_row, table_of, first_repeated, is_among}
 use Rattle.hs_top.specs.Lines.{line, value_text, row_text, rows_lines, count_text, committed_text, text_or_nothing, refusal_text, reply_line, outcome_lines, opened_line, closed_line, no_session}
 use Rattle.hs_top.specs.Machine.{State, step_of, entered, if_commit}
-use Rattle.hs_top.specs.Sessions.{Joined, joined as session_joined}
+use Rattle.hs_top.specs.Sessions.{Admitted, admitted as session_admitted}
 use Rattle.hs_top.specs.Spelling.{IsName}
 use Rattle.hs_top.specs.Statement.{statement_of, is_digit, is_capital}
-use Rattle.hs_top.specs.Told.{TellsAtMost, EndsLine, TellsLines, IsNamed, Each}
+use Rattle.hs_top.specs.Acknowledged.{AcknowledgesAtMost, EndsLine, AcknowledgesLines, IsNamed, Each}
 use Rattle.hs_top.proofs.Spelled.{statement_spelled}
 
 -- no bytes tell of no commit, a front tells of no more than the whole, and the bound may grow
-pub tells_nothing : (most : ℕ) → TellsAtMost [] most
+pub tells_nothing : (most : ℕ) → AcknowledgesAtMost [] most
 tells_nothing most n t =
     absurd (omega (arith, ap length t.is, length-append (t.before ++ committed_text n ++ codes "\n") t.behind, length-append (t.before ++ committed_text n) (codes "\n")))
 
-pub fewer : (front rest : List ℕ) (most : ℕ) → TellsAtMost (front ++ rest) most → TellsAtMost front most
+pub fewer : (front rest : List ℕ) (most : ℕ) → AcknowledgesAtMost (front ++ rest) most → AcknowledgesAtMost front most
 fewer front rest most whole n t = whole n (record {
   before = t.before;
   behind = t.behind ++ rest;
@@ -51,7 +51,7 @@ fewer front rest most whole n t = whole n (record {
   is = ap (λ (l : List ℕ). l ++ rest) t.is ∙ append_assoc (t.before ++ committed_text n ++ codes "\n") t.behind rest;
 })
 
-pub more : (out : List ℕ) (a b : ℕ) → TellsAtMost out a → a ≤ b → TellsAtMost out b
+pub more : (out : List ℕ) (a b : ℕ) → AcknowledgesAtMost out a → a ≤ b → AcknowledgesAtMost out b
 more out a b told grows n t = omega (arith, told n t)
 
 -- bytes that lack one
@@ -161,7 +161,7 @@ regroup : (before c k : List ℕ) → before ++ (c ++ 10 ∷ k) ≡ before ++ c 
 regroup before c k = sym (append_assoc before c (10 ∷ k)) ∙ sym (append_assoc (before ++ c) (codes "\n") k)
 
 -- whole lines go on by one line
-module _ (out text : List ℕ) (most next : ℕ) (so_far : TellsLines out most) (plain : lacks 10 text ≡ true) (says : (before : List ℕ) (n : ℕ) → n < 10 ^ 64 → text ≡ before ++ committed_text n → n ≤ next) (grows : most ≤ next) where
+module _ (out text : List ℕ) (most next : ℕ) (so_far : AcknowledgesLines out most) (plain : lacks 10 text ≡ true) (says : (before : List ℕ) (n : ℕ) → n < 10 ^ 64 → text ≡ before ++ committed_text n → n ≤ next) (grows : most ≤ next) where
   at_most : (n : ℕ) (before behind : List ℕ) → n < 10 ^ 64 → before ++ (committed_text n ++ 10 ∷ behind) ≡ out ++ (text ++ 10 ∷ []) → EndsLine out → n ≤ next
   at_most n before behind small e (inl none) = says before n small (in_last n text behind plain before (e ∙ ap (λ (l : List ℕ). l ++ (text ++ 10 ∷ [])) none))
   at_most n before behind small e (inr line) =
@@ -170,7 +170,7 @@ module _ (out text : List ℕ) (most next : ℕ) (so_far : TellsLines out most) 
         | inr here ↦ says here.0 n small here.1
       ]
 
-  one_line : TellsLines (out ++ (text ++ codes "\n")) next
+  one_line : AcknowledgesLines (out ++ (text ++ codes "\n")) next
   one_line = record {
     told = λ n t. at_most n t.before t.behind t.small (regroup t.before (committed_text n) t.behind ∙ sym t.is) so_far.ends;
     ends = inr (out ++ text, sym (append_assoc out text (codes "\n")));
@@ -211,12 +211,12 @@ led x text most clean says = record {
 }
 
 -- the first line and the last one
-pub opened_tells : (out : List ℕ) (most commits : ℕ) → TellsLines out most → TellsLines (out ++ opened_line commits) most
+pub opened_tells : (out : List ℕ) (most commits : ℕ) → AcknowledgesLines out most → AcknowledgesLines (out ++ opened_line commits) most
 opened_tells out most commits so_far =
     let says = two_words (codes "at") (decimal commits) most refl refl (decimal_lacks 10 refl commits) (decimal_lacks 32 refl commits) (λ e. absurd (omega arith)) in
     one_line out (codes "opened at " ++ decimal commits) most most so_far (lacks-append 10 (codes "opened at ") (decimal commits) refl (decimal_lacks 10 refl commits)) (says.told (codes "opened")) (omega arith)
 
-pub closed_tells : (out : List ℕ) (most commits : ℕ) → TellsLines out most → TellsLines (out ++ closed_line commits) most
+pub closed_tells : (out : List ℕ) (most commits : ℕ) → AcknowledgesLines out most → AcknowledgesLines (out ++ closed_line commits) most
 closed_tells out most commits so_far =
     let says = two_words (codes "at") (decimal commits) most refl refl (decimal_lacks 10 refl commits) (decimal_lacks 32 refl commits) (λ e. absurd (omega arith)) in
     one_line out (codes "closed at " ++ decimal commits) most most so_far (lacks-append 10 (codes "closed at ") (decimal commits) refl (decimal_lacks 10 refl commits)) (says.told (codes "closed")) (omega arith)
@@ -290,7 +290,7 @@ reply_tells (Refused (NoSuch name)) most fits = led (codes "refused no such") na
 
 -- a line of an item, and its lines
 module _ (number_of_item : ℕ) (session : List ℕ) (clean : lacks 10 session ≡ true) where
-  line_tells : (out text : List ℕ) (most next : ℕ) → TellsLines out most → TextTells text next → most ≤ next → TellsLines (out ++ line number_of_item session text) next
+  line_tells : (out text : List ℕ) (most next : ℕ) → AcknowledgesLines out most → TextTells text next → most ≤ next → AcknowledgesLines (out ++ line number_of_item session text) next
   line_tells out text most next so_far says grows =
       let front : List ℕ = decimal number_of_item ++ codes " " ++ session in
       let fresh : lacks 10 (front ++ codes ": ") ≡ true =
@@ -298,20 +298,20 @@ module _ (number_of_item : ℕ) (session : List ℕ) (clean : lacks 10 session �
       one_line out (front ++ codes ": " ++ text) most next so_far (lacks-append 10 (front ++ codes ": ") text fresh says.plain)
       (λ before n small e. says.told (front ++ codes ":") before n small (append_assoc front (codes ":") (32 ∷ text) ∙ sym (append_assoc front (codes ": ") text) ∙ e)) grows
 
-  reply_line_tells : (out : List ℕ) (reply : Reply) (most next : ℕ) → TellsLines out most → Fits reply next → most ≤ next → TellsLines (out ++ reply_line number_of_item session reply) next
+  reply_line_tells : (out : List ℕ) (reply : Reply) (most next : ℕ) → AcknowledgesLines out most → Fits reply next → most ≤ next → AcknowledgesLines (out ++ reply_line number_of_item session reply) next
   reply_line_tells out (Done count committed) most next so_far fits grows = line_tells out (reply_text (Done count committed)) most next so_far (reply_tells (Done count committed) next fits) grows
   reply_line_tells out (Refused why) most next so_far fits grows = line_tells out (reply_text (Refused why)) most next so_far (reply_tells (Refused why) next fits) grows
 
-  rows_tell : (out : List ℕ) (rows : List (List Value)) (most : ℕ) → TellsLines out most → TellsLines (out ++ rows_lines number_of_item session rows) most
-  rows_tell out [] most so_far = subst (λ (l : List ℕ). TellsLines l most) (sym (append-nil out)) so_far
+  rows_tell : (out : List ℕ) (rows : List (List Value)) (most : ℕ) → AcknowledgesLines out most → AcknowledgesLines (out ++ rows_lines number_of_item session rows) most
+  rows_tell out [] most so_far = subst (λ (l : List ℕ). AcknowledgesLines l most) (sym (append-nil out)) so_far
   rows_tell out (row ∷ rows) most so_far =
       let one : List ℕ = line number_of_item session (codes "row " ++ row_text row) in
-      subst (λ (l : List ℕ). TellsLines l most) (append_assoc out one (rows_lines number_of_item session rows))
+      subst (λ (l : List ℕ). AcknowledgesLines l most) (append_assoc out one (rows_lines number_of_item session rows))
       (rows_tell (out ++ one) rows most (line_tells out (codes "row " ++ row_text row) most most so_far (row_tells row most) (omega arith)))
 
-  outcome_tells : (out : List ℕ) (outcome : Outcome) (most next : ℕ) → TellsLines out most → Fits outcome.reply next → most ≤ next → TellsLines (out ++ outcome_lines number_of_item session outcome) next
+  outcome_tells : (out : List ℕ) (outcome : Outcome) (most next : ℕ) → AcknowledgesLines out most → Fits outcome.reply next → most ≤ next → AcknowledgesLines (out ++ outcome_lines number_of_item session outcome) next
   outcome_tells out outcome most next so_far fits grows =
-      subst (λ (l : List ℕ). TellsLines l next) (append_assoc out (rows_lines number_of_item session outcome.rows) (reply_line number_of_item session outcome.reply))
+      subst (λ (l : List ℕ). AcknowledgesLines l next) (append_assoc out (rows_lines number_of_item session outcome.rows) (reply_line number_of_item session outcome.reply))
       (reply_line_tells (out ++ rows_lines number_of_item session outcome.rows) outcome.reply most next (rows_tell out outcome.rows most so_far) fits grows)
 
 -- what is logged is counted
@@ -343,9 +343,9 @@ pub one_text : (i : Item) (s : State) → (step_of i s).next.database.commits �
 one_text (item.Bad n) s = omega arith
 one_text (item.TooLong n) s = omega arith
 one_text item.End s = omega arith
-one_text (item.Entry n name text at) s = entry (session_joined name s.sessions) (statement_of text)
+one_text (item.Entry n name text at) s = entry (session_admitted name s.sessions) (statement_of text)
   where
-    entry : (j : Option Joined) (st : Option Statement) → (entered n name st s j).next.database.commits ≡ s.database.commits + length (entered n name st s j).texts
+    entry : (j : Option Admitted) (st : Option Statement) → (entered n name st s j).next.database.commits ≡ s.database.commits + length (entered n name st s j).texts
     entry None st = omega arith
     entry (Some j) None = omega arith
     entry (Some j) (Some st) = executed_counts (commit_text s.last j.number st) s.database st
@@ -387,18 +387,18 @@ module _ (db : Database) where
   performed_fits text (Some (Select name)) is = selected_fits name (table_of db.tables name) (statement_spelled text (Select name) is).1
 
 -- a step of the machine
-pub step_tells : (i : Item) (s : State) → IsNamed i → (out : List ℕ) → TellsLines out s.database.commits → TellsLines (out ++ (step_of i s).lines) (step_of i s).next.database.commits
+pub step_tells : (i : Item) (s : State) → IsNamed i → (out : List ℕ) → AcknowledgesLines out s.database.commits → AcknowledgesLines (out ++ (step_of i s).lines) (step_of i s).next.database.commits
 step_tells (item.Bad n) s named out so_far = reply_line_tells n no_session refl out (Refused Entry) s.database.commits s.database.commits so_far tt (omega arith)
 step_tells (item.TooLong n) s named out so_far = reply_line_tells n no_session refl out (Refused TooLong) s.database.commits s.database.commits so_far tt (omega arith)
-step_tells item.End s named out so_far = subst (λ (l : List ℕ). TellsLines l s.database.commits) (sym (append-nil out)) so_far
-step_tells (item.Entry n name text at) s named out so_far = entry (session_joined name s.sessions) refl
+step_tells item.End s named out so_far = subst (λ (l : List ℕ). AcknowledgesLines l s.database.commits) (sym (append-nil out)) so_far
+step_tells (item.Entry n name text at) s named out so_far = entry (session_admitted name s.sessions) refl
   where
-    entry : (j : Option Joined) → session_joined name s.sessions ≡ j → TellsLines (out ++ (entered n name (statement_of text) s j).lines) (entered n name (statement_of text) s j).next.database.commits
+    entry : (j : Option Admitted) → session_admitted name s.sessions ≡ j → AcknowledgesLines (out ++ (entered n name (statement_of text) s j).lines) (entered n name (statement_of text) s j).next.database.commits
     entry None is = reply_line_tells n name named out (Refused Sessions) s.database.commits s.database.commits so_far tt (omega arith)
     entry (Some j) is =
         let outcome : Outcome = performed s.database (statement_of text) in
         outcome_tells n name named out outcome s.database.commits outcome.database.commits so_far (performed_fits s.database text (statement_of text) refl)
-        (subst (λ (o : Option Joined). s.database.commits ≤ (entered n name (statement_of text) s o).next.database.commits) is (commits_grow (item.Entry n name text at) s))
+        (subst (λ (o : Option Admitted). s.database.commits ≤ (entered n name (statement_of text) s o).next.database.commits) is (commits_grow (item.Entry n name text at) s))
 
 -- the names of sessions
 session_clean : (name : List ℕ) → is_session name ≡ true → lacks 10 name ≡ true

@@ -9,7 +9,7 @@ AreBehind n (range ∷ ranges) = (n ≤ range.0) × AreBehind n ranges
 
 -- The first n bytes are on the disk as these have them, and no write or cut since has touched them. So whatever a crash
 -- leaves begins with them.
-pub record KeepsFront (p : Pending) (n : ℕ) (bytes : List ℕ) : Type 0 where
+pub record KeepsPrefix (p : Pending) (n : ℕ) (bytes : List ℕ) : Type 0 where
   pub long : n ≤ length p.synced
   pub low : n ≤ p.low
   pub same : take n p.synced ≡ take n bytes

@@ -1,6 +1,6 @@
 use Rattle.std.proofs.Common.{◌≡◌, ◌≤◌, ◌++◌, length}
-use Rattle.hs_host.specs.Moments.{Since, IsTold}
-use Rattle.hs_top.proofs.hand_over.write_all.Given as goal
+use Rattle.hs_host.specs.Moments.{Since, IsPrinted}
+use Rattle.hs_top.proofs.flush.write_all.Given as goal
 
 abbrev pub invariant-loop-rest : goal.invariant-loop-rest
 invariant-loop-rest g l =
@@ -8,7 +8,7 @@ invariant-loop-rest g l =
     record {
       so_far : g.H.Source.tells → written l.host ++ l.rest ≡ written l.fn.host ++ l.bytes;
       grown : g.H.Source.tells → length (written l.fn.host) ≤ length (written l.host);
-      moments : g.H.Source.tells → Since (IsTold (g.H.Host.history l.fn.host).now l.bytes) (g.H.Host.history l.fn.host) (g.H.Host.history l.host);
+      moments : g.H.Source.tells → Since (IsPrinted (g.H.Host.history l.fn.host).now l.bytes) (g.H.Host.history l.fn.host) (g.H.Host.history l.host);
       later : g.H.Host.output_faults l.fn.host ≤ g.H.Host.output_faults l.host;
       unread : g.H.Source.unread l.host ≡ g.H.Source.unread l.fn.host;
       faults : g.H.Source.input_faults l.host ≡ g.H.Source.input_faults l.fn.host;
