@@ -254,6 +254,8 @@ impl Source for Noting {
 impl Host for Noting {
     ghost use Rattle.std.specs.Prelude.{refl};
     ghost use Rattle.std.proofs.Common.{ap};
+    ghost use Rattle.hs_memhost.specs.Files.{contents_of};
+    ghost use Rattle.hs_memhost.specs.Left.{may_be_left};
     ghost use Rattle.hs_memhost.specs.Replay.{still_since};
 
     ghost written = { λ h. ⟦<MemHost as Host>⟧.written h.inner };
@@ -270,7 +272,7 @@ impl Host for Noting {
 
     ghost output_now = { λ h told. refl };
 
-    ghost read_may_be_left = { λ h told honest file. ⟦<MemHost as Host>⟧.read_may_be_left h.inner told honest file };
+    ghost read_may_be_left = { λ h told honest file. may_be_left (contents_of h.inner.devices.first) h.inner.devices.calls.items file };
 
     ghost reading_passes = { λ a b read told. still_since (ap (λ k. k.history) read) };
 
