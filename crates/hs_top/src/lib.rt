@@ -22,14 +22,6 @@ mod statement;
 mod statement_log;
 mod status;
 mod table;
-#[cfg(test)]
-mod tests;
-#[cfg(test)]
-mod tests_commit_text;
-#[cfg(test)]
-mod tests_log;
-#[cfg(test)]
-mod tests_support;
 mod values;
 mod work;
 

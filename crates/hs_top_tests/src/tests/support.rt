@@ -2,10 +2,9 @@
 ghost use Rattle.std.specs.Prelude.{◌≡◌, IfOk};
 ghost use Rattle.hs_host.specs.Files.{IsUnnamed};
 
-use crate::run;
-use crate::status::Status;
 use hs_host::{FileKind, Host};
 use hs_memhost::{CallList, Images, MemHost};
+use hs_top::{Status, run};
 use hs_values::{Bytes, Chars, Words};
 use std::alloc::{AllocError, Global};
 

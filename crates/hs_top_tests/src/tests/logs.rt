@@ -1,10 +1,8 @@
 // The log of a run: what it holds, what is read of it, and what its faults do.
-use crate::damage::Damage;
-use crate::run;
-use crate::status::Status;
-use crate::tests_support::{shown, words};
+use crate::tests::support::{shown, words};
 use hs_host::FileKind;
 use hs_memhost::{CallList, Images, MemHost};
+use hs_top::{Damage, Status, run};
 use hs_values::Bytes;
 use std::alloc::{AllocError, Global};
 use std::test::Fail;
@@ -111,8 +109,8 @@ fn damaged_logs(rt: HostRuntime) -> Result<(), Fail> {
 // The calls of the host in a run, by their devices: the disk, the output and the input.
 const CALLS: &str = "DDDDDDDOIDDDDDDDDOIO";
 
-// How many commits were told in whole lines, at most 2.
-fn told(text: &[u8]) -> u32 {
+// How many commits were acknowledged in whole lines, at most 2.
+fn acknowledged(text: &[u8]) -> u32 {
     let mut count = 0u32;
     for line in [b" committed 1/".as_slice(), b" committed 2/".as_slice()] {
         if text.windows(line.len()).any(|piece| piece == line) {
@@ -123,7 +121,7 @@ fn told(text: &[u8]) -> u32 {
 }
 
 // Each call fails in turn: the status is that device's, a prefix of the output is written, and the log that
-// is left opens at a commit, and not before one that was told.
+// is left opens at a commit, and not before one that was acknowledged.
 #[test]
 fn failing_calls(rt: HostRuntime) -> Result<(), Fail> {
     let alloc = rt.alloc();
@@ -143,7 +141,7 @@ fn failing_calls(rt: HostRuntime) -> Result<(), Fail> {
             Some(digit) => u32::from(*digit).saturating_sub(48),
             None => 9,
         };
-        assert!(rt; told(&run.text) <= opened && opened <= 2, "at call {call}");
+        assert!(rt; acknowledged(&run.text) <= opened && opened <= 2, "at call {call}");
     }
     let past = CALLS.len() as u64;
     let run = shown(alloc, TWO, 100_000, b"", &[past])?;

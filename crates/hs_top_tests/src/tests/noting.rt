@@ -1,0 +1,168 @@
+// The order of a run's calls: what is written and synced before what, by a host that notes them.
+ghost use Rattle.std.specs.Prelude.{◌≡◌};
+
+use crate::tests::support::{host, words};
+use hs_host::{FileKind, Host, HostFault, MountFault, Source};
+use hs_memhost::MemHost;
+use hs_top::{Status, run};
+use std::alloc::Global;
+use std::test::Fail;
+
+// A host that notes its calls, and how much was written before each read.
+#[derive(Drop)]
+struct Noting {
+    inner: MemHost,
+    calls: Vec<u8>,
+    before_reads: Vec<usize>,
+}
+
+impl Noting {
+    ghost use Rattle.std.specs.Prelude.{◌≡◌, OnErr, Err};
+
+    fn new(alloc: Global, inner: MemHost) -> Noting
+        ensures { result.inner ≡ inner }
+    {
+        Noting {
+            inner,
+            calls: Vec::new(alloc),
+            before_reads: Vec::new(alloc),
+        }
+    }
+
+    fn note(&mut self, call: u8) -> Result<(), HostFault>
+        ensures inner { self.new.inner ≡ self.old.inner }
+        ensures err { OnErr result (result ≡ Err HostFault.NoMemory) }
+    {
+        match self.calls.push(call) {
+            Ok(()) => Ok(()),
+            Err(_) => Err(HostFault::NoMemory),
+        }
+    }
+}
+
+impl Source for Noting {
+    ghost use Rattle.std.specs.Prelude.{◌≡◌, ◌++◌, refl};
+    ghost use Rattle.std.proofs.Common.{◌∙◌};
+    ghost use Rattle.hs_memhost.specs.Memory.{kept_of};
+
+    ghost tells = { ⟦<MemHost as Source>⟧.tells };
+
+    ghost unread = { λ h. ⟦<MemHost as Source>⟧.unread h.inner };
+
+    ghost input_faults = { λ h. ⟦<MemHost as Source>⟧.input_faults h.inner };
+
+    ghost only_input = { λ a b. kept_of b.inner ≡ kept_of a.inner };
+
+    ghost reads = { λ a b bytes. ⟦<MemHost as Source>⟧.unread a.inner ≡ bytes ++ ⟦<MemHost as Source>⟧.unread b.inner };
+
+    ghost nothing_read = { λ h. refl };
+
+    ghost read_on = { λ a b c ab bc. bc ∙ ab };
+
+    fn read_input(&mut self, buf: &mut [u8]) -> Result<usize, HostFault> {
+        self.note(b'i')?;
+        let written = self.inner.output().len();
+        if self.before_reads.push(written).is_err() {
+            return Err(HostFault::NoMemory);
+        }
+        self.inner.read_input(buf)
+    }
+}
+
+impl Host for Noting {
+    ghost use Rattle.std.specs.Prelude.{refl};
+    ghost use Rattle.std.proofs.Common.{ap};
+    ghost use Rattle.hs_memhost.specs.Files.{contents_of};
+    ghost use Rattle.hs_memhost.specs.Left.{may_be_left};
+    ghost use Rattle.hs_memhost.specs.Replay.{still_since};
+
+    ghost written = { λ h. ⟦<MemHost as Host>⟧.written h.inner };
+
+    ghost history = { λ h. ⟦<MemHost as Host>⟧.history h.inner };
+
+    ghost output_faults = { λ h. ⟦<MemHost as Host>⟧.output_faults h.inner };
+
+    ghost files = { λ h. ⟦<MemHost as Host>⟧.files h.inner };
+
+    ghost standing = { λ h. ⟦<MemHost as Host>⟧.standing h.inner };
+
+    ghost disk_faults = { λ h. ⟦<MemHost as Host>⟧.disk_faults h.inner };
+
+    ghost output_now = { λ h told. refl };
+
+    ghost read_may_be_left = { λ h told honest file. may_be_left (contents_of h.inner.devices.first) h.inner.devices.calls.items file };
+
+    ghost reading_passes = { λ a b read told. still_since (ap (λ k. k.history) read) };
+
+    ghost reading_keeps_output = { λ a b read. (ap (λ k. k.history.now.out) read, ap (λ k. k.output_faults) read) };
+
+    ghost reading_keeps_files = { λ a b read. (ap (λ k. k.files) read, ap (λ k. k.standing) read, ap (λ k. k.disk_faults) read) };
+
+    fn write_output(&mut self, bytes: &[u8]) -> Result<usize, HostFault> {
+        self.note(b'o')?;
+        self.inner.write_output(bytes)
+    }
+
+    fn mount(&mut self, name: &str) -> Result<(), MountFault> {
+        if self.note(b'm').is_err() {
+            return Err(MountFault::NoMemory);
+        }
+        self.inner.mount(name)
+    }
+
+    fn len(&mut self, file: FileKind) -> Result<u64, HostFault> {
+        self.note(b'l')?;
+        self.inner.len(file)
+    }
+
+    fn read(&mut self, file: FileKind, at: u64, buf: &mut [u8]) -> Result<(), HostFault> {
+        self.note(b'r')?;
+        self.inner.read(file, at, buf)
+    }
+
+    fn write(&mut self, file: FileKind, at: u64, bytes: &[u8]) -> Result<(), HostFault> {
+        self.note(b'w')?;
+        self.inner.write(file, at, bytes)
+    }
+
+    fn cut(&mut self, file: FileKind, len: u64) -> Result<(), HostFault> {
+        self.note(b'c')?;
+        self.inner.cut(file, len)
+    }
+
+    fn sync(&mut self, file: FileKind) -> Result<(), HostFault> {
+        self.note(b's')?;
+        self.inner.sync(file)
+    }
+}
+
+// Each entry is one read, and its reply is written before the next.
+#[test]
+fn replies_come_before_more_input(rt: HostRuntime) -> Result<(), Fail> {
+    let alloc = rt.alloc();
+    let words = words(alloc, &["hsql", "demo"])?;
+    let entry = b"a: SELECT * FROM T;";
+    let mut inner = host(alloc, &[*entry, *entry, *entry].concat(alloc)?, b"", &[])?;
+    inner.give_in_pieces([entry.len()].to_vec(alloc)?);
+    let mut host = Noting::new(alloc, inner);
+    assert_eq!(rt; run(alloc, &words, &mut host), Status::Done);
+    let opened = b"opened at 0\n".len();
+    let line = b"1 a: refused no such T\n".len();
+    let wanted = [opened, opened + line, opened + 2 * line, opened + 3 * line];
+    assert_eq!(rt; host.before_reads.as_slice(), wanted.as_slice());
+    Ok(())
+}
+
+// The order of the calls: the log is made, and of each commit length, payload and a closed gate are
+// written and synced, and then its gate is; and only then its reply is written.
+#[test]
+fn commits_are_on_the_disk_before_they_are_acknowledged(rt: HostRuntime) -> Result<(), Fail> {
+    let alloc = rt.alloc();
+    let words = words(alloc, &["hsql", "demo"])?;
+    let input = b"a: CREATE TABLE T (N BIGINT);a: INSERT INTO T VALUES (1);a: SELECT * FROM T;";
+    let mut host = Noting::new(alloc, host(alloc, input, b"", &[])?);
+    assert_eq!(rt; run(alloc, &words, &mut host), Status::Done);
+    let wanted = b"mlwcswsoiwswswswsoio";
+    assert_eq!(rt; host.calls.as_slice(), wanted.as_slice());
+    Ok(())
+}
