@@ -21,21 +21,21 @@ fail() {
     exit 1
 }
 
-fronts=0
+prefixes=0
 for ((number = 1; number < 1000; number++)); do
     rm -f "$work"/db.*
     status=0
     REFUSE_AT=$number LD_PRELOAD="$work/refuse_alloc.so" "$program" "$work/db" \
         <"$top/examples/first.sql" >"$work/output" 2>"$work/errors" || status=$?
     size=$(wc -c <"$work/output")
-    cmp -s <(head -c "$size" "$top/examples/first.out") "$work/output" || fail "the output is no front of the expected one"
+    cmp -s <(head -c "$size" "$top/examples/first.out") "$work/output" || fail "the output is no prefix of the expected one"
     if [ "$status" = 0 ]; then
         cmp -s "$top/examples/first.out" "$work/output" || fail "the output isn't whole"
-        echo "$((number - 1)) allocations were refused in turn: each run ended with status 5 and a prefix of the output, $fronts of them not empty"
+        echo "$((number - 1)) allocations were refused in turn: each run ended with status 5 and a prefix of the output, $prefixes of them not empty"
         exit 0
     fi
     [ "$status" = 5 ] || fail "the status is $status"
-    [ "$size" = 0 ] || fronts=$((fronts + 1))
+    [ "$size" = 0 ] || prefixes=$((prefixes + 1))
     "$program" "$work/db" </dev/null >"$work/again" || fail "the log that is left isn't opened"
     opened=$(sed -n '1s/opened at //p' "$work/again")
     [ "$opened" -ge "$(grep -c ' committed ' "$work/output")" ] || fail "an acknowledged commit is lost"

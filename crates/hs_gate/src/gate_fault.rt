@@ -7,7 +7,8 @@ use std::alloc::AllocError;
 pub enum GateFault {
     /// The device failed. It is answered only where the count of its faults rose.
     Disk,
-    /// The group of this number, or the one at this place, isn't whole.
+    /// A group isn't whole. `Gated::read` gives the number, from 1, of the first such group; `Gated::part` the place, in
+    /// bytes, at which no whole group stands.
     Broken(u64),
     /// Memory was refused, or a place in the file doesn't fit in 64 bits. No rule says when memory is refused.
     NoMemory,

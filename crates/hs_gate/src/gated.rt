@@ -24,11 +24,11 @@ const HEAD_BYTES: usize = 256;
 pub struct Gated {
     /// The file.
     pub file: FileKind,
-    /// Its epoch.
+    /// The number in bytes 2 to 9 of its header.
     pub epoch: u64,
     /// How many groups it has.
     pub groups: u64,
-    /// The place of the gate behind its groups, which isn't open.
+    /// The place of the gate that ends its groups, in bytes from the file's first. That gate isn't open.
     pub end: u64,
 }
 
@@ -44,7 +44,8 @@ pub struct Front {
 impl Gated {
     ghost use Rattle.hs_gate.specs.Gated.{IsFront, IsGated, IsAtRest, IsPlace, TakesPart, grown, appended};
 
-    /// Reads the group whose gate is at a place, which is `end` where none is left. The first place is 10.
+    /// Reads the group whose gate is at a place in bytes: 10 for the first group, `next` of the part before for any other,
+    /// and `end` where none is left.
     ///
     /// It answers none exactly where `at` is `end`. `Broken(at)` comes only where the bytes from there to `end`,
     /// as they were read, are no whole group with one more byte behind it, and never over an honest host. `Disk`

@@ -4,8 +4,8 @@ use hs_values::Bytes;
 /// A group that was read.
 #[derive(Debug, Drop)]
 pub struct Part {
-    /// What the group holds.
+    /// The bytes that the group holds.
     pub payload: Bytes,
-    /// The place behind the group.
+    /// The place of the next gate, in bytes from the file's first.
     pub next: u64,
 }

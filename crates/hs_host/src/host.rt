@@ -32,7 +32,8 @@ pub trait Host: Source {
     /// How often a call on the files has failed.
     ghost disk_faults: { Self → ℕ };
 
-    /// The moments so far. What a crash at a moment may leave of each file is told by what the disk has of it then.
+    /// The moments so far: at each, the output by then and what the disk has of each file, from which follows what a crash
+    /// at that moment may leave.
     ghost history: { Self → History };
 
     /// Takes bytes from the front of `bytes` as the next output, and answers how many. Taking none of a

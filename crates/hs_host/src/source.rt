@@ -7,7 +7,7 @@ use crate::host_fault::HostFault;
 
 /// Where the input comes from. This is all that a reader of entries needs.
 pub trait Source {
-    /// The host tells the bytes that it reads and writes.
+    /// Contracts may speak of the bytes of this host. Where this is empty, as for real files, they claim nothing of them.
     ghost tells: { Type 0 };
 
     /// The input that isn't read yet.

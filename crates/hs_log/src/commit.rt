@@ -1,4 +1,4 @@
-// Adds a commit to the journal.
+// Adds a commit to the log.
 ghost use Rattle.std.specs.Prelude.{◌≡◌, length, take, OnOk, OnErr};
 ghost use Rattle.hs_host.specs.Files.{of, IsOpen, IsHonest};
 ghost use Rattle.hs_host.specs.Moments.{Since, OneFile};
@@ -12,12 +12,12 @@ use hs_gate::{GateFault, Gated};
 use hs_host::Host;
 use hs_values::Bytes;
 
-/// Adds a commit, whose text is `line`, as one more group of the journal.
+/// Adds a commit, whose text is `line`, as one more group of the log.
 ///
-/// At each moment on the way a crash leaves the journal's groups as they were, or these and the commit, where
-/// the journal stood on the disk before. After an `Ok` it stands there with the commit.
+/// At each moment on the way a crash leaves the log's groups as they were, or these and the commit, where
+/// the log stood on the disk before. After an `Ok` it stands there with the commit.
 ///
-/// After an `Err` the journal is unchanged, and its file is to be read again. `Disk` comes only where a call of
+/// After an `Err` the log is unchanged, and its file is to be read again. `Disk` comes only where a call of
 /// the host failed. `NoMemory` is handed on from the host, and comes where the places don't fit in 64 bits.
 pub fn log_commit<H: Host>(journal: &mut Gated, host: &mut H, line: &Bytes) -> Result<(), GateFault>
     requires opened { IsOpen (H.standing host.old) }

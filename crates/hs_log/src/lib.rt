@@ -1,4 +1,4 @@
-//! The journal: a gated file whose groups are commits.
+//! The log: a gated file whose groups are commits.
 #![tactic(auto)]
 
 mod commit;

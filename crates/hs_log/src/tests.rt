@@ -1,4 +1,4 @@
-// A commit in the journal of a database in memory.
+// A commit in the log of a database in memory.
 use crate::log_commit;
 use hs_gate::Gated;
 use hs_host::{FileKind, Host};

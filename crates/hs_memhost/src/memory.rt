@@ -35,8 +35,9 @@ impl MemHost {
     ghost use Rattle.hs_memhost.specs.Replay.{history_of};
 
     /// A host with this input, no output, no name and no call yet. Its files are these, all on the disk. They are
-    /// those of another program exactly where `foreign` says so. The calls that are `failing` do nothing but count, and answer
-    /// `Fault`; no other call answers `Fault`.
+    /// those of another program exactly where `foreign` says so. Its calls are counted from 0, those on the input, the output and
+    /// the files together. The calls whose numbers are in `failing` do nothing but count, and answer `Fault`; no other call
+    /// answers `Fault`.
     pub fn new(
         alloc: Global,
         input: Bytes,
@@ -68,8 +69,9 @@ impl MemHost {
         }
     }
 
-    /// From now on a read gives at most so many bytes, but at least one: the lengths are taken in turn,
-    /// and again from the first. What is read in all stays the same.
+    /// From now on a read of the input gives at most so many bytes, but at least one: the lengths are taken in turn, and again
+    /// from the first; an empty list sets no bound. What is read in all stays the same; how it is cut is tested, and promised
+    /// by no clause.
     pub fn give_in_pieces(&mut self, lengths: Vec<usize>)
         ensures unread { ⟦<MemHost as Source>⟧.unread self.new ≡ ⟦<MemHost as Source>⟧.unread self.old }
         ensures written { ⟦<MemHost as Host>⟧.written self.new ≡ ⟦<MemHost as Host>⟧.written self.old }

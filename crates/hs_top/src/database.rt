@@ -33,7 +33,8 @@ impl Database {
         }
     }
 
-    /// Does what a statement other than a query asks for.
+    /// Does what a statement other than a query asks for, and answers its reply. After an `Err`, which is want of memory,
+    /// nothing is said of the database.
     pub fn change(&mut self, alloc: Global, statement: Statement) -> Result<Reply, AllocError>
         requires change { IsChange statement }
         requires room { self.old.commits < 2 ^ 63 }
@@ -116,7 +117,7 @@ fn is_among(name: &Name, names: &[Name]) -> bool
     names.iter().any(|n| name.as_str() == n.as_str())
 }
 
-/// The rows of a table in ascending order of all columns from the left.
+/// The rows of a table in ascending order of all columns from the left. An `Err` is want of memory.
 pub fn sorted(alloc: Global, table: &Table) -> Result<Vec<&Row>, AllocError>
     ensures { IfOk result (λ rows. map (λ r. r.now) rows.items ≡ sorted_rows table.now.rows) }
 {

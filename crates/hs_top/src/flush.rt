@@ -9,7 +9,7 @@ use crate::output::Output;
 use crate::status::Status;
 use hs_host::{Host, HostFault};
 
-/// How much output is gathered before it is handed over.
+/// How many bytes of output are gathered before they are handed over.
 const MOST_GATHERED: usize = 65_536;
 
 /// Hands over all that is gathered.
@@ -33,7 +33,7 @@ pub fn flush<H: Host>(output: &mut Output, host: &mut H) -> Result<(), Status>
     Ok(())
 }
 
-/// Hands over what is gathered, where it is much.
+/// Hands over what is gathered, where it is 64 KiB or more.
 #[tactic(auto, using(crate::proofs::Prefixes::nothing_yet, hs_host::proofs::Passing::since_none))]
 pub fn flush_when_large<H: Host>(output: &mut Output, host: &mut H) -> Result<(), Status>
     ensures done { H.tells → OnOk result (H.written host.new ++ output.new ≡ H.written host.old ++ output.old) }

@@ -39,7 +39,8 @@ fn with_key(row: &Row) -> Option<Keyed<'_>>
     }
 }
 
-/// Sorts rows in ascending order of all columns from the left; equal rows stay as they stood.
+/// Sorts rows in ascending order of all columns from the left; equal rows stay as they stood. An `Err` is want of memory, and
+/// then nothing is said of their order.
 pub fn sort_keyed(rows: &mut Vec<Keyed<'_>>) -> Result<(), AllocError>
     ensures { OnOk result (map (λ k. k.row.now) rows.new.items ≡ sorted_rows (map (λ k. k.row.now) rows.old.items)) }
 {

@@ -12,7 +12,7 @@ use std::alloc::{AllocError, Global};
 use std::marker::Model;
 
 /// Output that is gathered and not yet handed over, which contracts see as its bytes. After an `Err`,
-/// which is want of memory, what is gathered may end with the front of a line.
+/// which is want of memory, what is gathered may end with a part of a line.
 #[derive(Drop)]
 pub struct Output {
     text: Vec<u8>,
@@ -39,12 +39,14 @@ impl Output {
         }
     }
 
+    /// What is gathered.
     pub fn as_bytes(&self) -> &[u8]
         ensures { result.now ≡ self.now }
     {
         &self.text
     }
 
+    /// How many bytes are gathered.
     pub fn len(&self) -> usize
         ensures { result ≡ length self.now }
     {

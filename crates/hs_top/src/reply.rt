@@ -6,9 +6,9 @@ use crate::refusal::Refusal;
 pub enum Reply {
     /// It was done.
     Done {
-        /// How many rows an answer has, or a statement put.
+        /// How many rows an answer has, or a statement put; none for CREATE TABLE.
         count: Option<u64>,
-        /// The number of its commit, counted from 1.
+        /// The number of its commit, counted from 1; none where nothing was committed.
         committed: Option<u64>,
     },
     /// It was refused, and no table is changed.

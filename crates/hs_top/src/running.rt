@@ -31,7 +31,8 @@ pub struct Running {
 impl Running {
     ghost use Rattle.hs_top.specs.Running.{machine_of, machine_within, texts_in, OnlyLog, IsTooLong, IsSane, IsLog};
 
-    /// Takes a turn: reads the next item and answers it. Answers whether there was one.
+    /// Takes a turn: reads the next item and answers it. Answers whether there was one, so `false` at the end of the input. An
+    /// `Err` is the status with which the run ends.
     pub fn turn<H: Host>(&mut self, host: &mut H) -> Result<bool, Status>
         requires sane { IsSane self.old }
         requires opened { IsOpen (H.standing host.old) }

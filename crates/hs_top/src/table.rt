@@ -54,6 +54,7 @@ impl Tables {
         }
     }
 
+    /// How many tables there are.
     pub fn len(&self) -> usize
         ensures { result ≡ length self.now }
     {

@@ -6,7 +6,7 @@ use crate::integer::push_integer;
 use hs_values::Value;
 use std::alloc::AllocError;
 
-/// The values of a row, with a comma between them.
+/// Appends the values of a row, with a comma between them. An `Err` is want of memory, and then a part may be appended.
 pub fn push_values(text: &mut Vec<u8>, row: &[Value]) -> Result<(), AllocError>
     ensures { OnOk result (text.new.items ≡ text.old.items ++ row_text row.now) }
 {

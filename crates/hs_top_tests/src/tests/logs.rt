@@ -141,7 +141,10 @@ fn failing_calls(rt: HostRuntime) -> Result<(), Fail> {
             Some(digit) => u32::from(*digit).saturating_sub(48),
             None => 9,
         };
-        assert!(rt; acknowledged(&run.text) <= opened && opened <= 2, "at call {call}");
+        assert!(rt;
+            acknowledged(&run.text) <= opened && opened <= 2,
+            "at call {call}"
+        );
     }
     let past = CALLS.len() as u64;
     let run = shown(alloc, TWO, 100_000, b"", &[past])?;
