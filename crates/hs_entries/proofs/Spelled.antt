@@ -77,6 +77,10 @@ between_block_leads star (b ∷ bytes) h =
     let (s, later) = between_block_leads (b == 42) bytes step.1 in
     (s, leads_byte (between_block star) (between_block (b == 42)) b bytes goes.0 goes.1 ∙ later)
 
+pub none_of_nothing : (n : ℕ) → items n [] ≡ []
+unfolding is_entry
+none_of_nothing n = refl
+
 -- what is skipped before an entry
 pub white_skipped : (n w : ℕ) (bytes : List ℕ) → is_white w ≡ true → items n (w ∷ bytes) ≡ items n bytes
 unfolding next_place is_open
@@ -259,14 +263,18 @@ whole_entry n first parts bytes h =
     items_from-leads cut_items n Between q [] entry (59 ∷ bytes) on
     ∙ items_from-end cut_items n q entry 59 bytes (loose.ends 59)
 
+-- the input ends in an entry
+cut_alone : (n : ℕ) (q : Place) (entry : List ℕ) → leads Between entry ≡ Some q → is_entry q ≡ true → items n entry ≡ cut_item_of n entry ∷ []
+cut_alone n q entry on begun =
+    let is : cut_items n q entry ≡ cut_item_of n entry ∷ [] = rw begun refl in
+    ap (λ (l : List ℕ). items n l) (sym (append-nil entry))
+    ∙ items_from-leads cut_items n Between q [] entry [] on ∙ is
+
 pub cut_entry : (n : ℕ) (first : Part) (parts : List Part) → is_entry_of first parts ≡ true
     → items n (spelling (first ∷ parts)) ≡ cut_item_of n (spelling (first ∷ parts)) ∷ []
 cut_entry n first parts h =
     let (q, on, loose) = entry_leads first parts h in
-    let entry = spelling (first ∷ parts) in
-    let is : cut_items n q entry ≡ cut_item_of n entry ∷ [] = rw loose.entry refl in
-    ap (λ (l : List ℕ). items n l) (sym (append-nil entry))
-    ∙ items_from-leads cut_items n Between q [] entry [] on ∙ is
+    cut_alone n q (spelling (first ∷ parts)) on loose.entry
 
 pub lone_semicolon : (n : ℕ) (bytes : List ℕ) → items n (59 ∷ bytes) ≡ item_of n (59 ∷ []) ∷ items (n + 1) bytes
 unfolding is_open
@@ -317,8 +325,19 @@ pub unclosed_part : (n : ℕ) (first : Part) (parts : List Part) (part : Part) �
     → items n (spelling (first ∷ parts) ++ unclosed part) ≡ cut_item_of n (spelling (first ∷ parts) ++ unclosed part) ∷ []
 unclosed_part n first parts part h one =
     let (p, on, loose) = entry_leads first parts h in
-    let (q, more, open_entry) = unclosed_leads (last_of_all 0 (first ∷ parts)) p part loose one in
-    let entry = spelling (first ∷ parts) ++ unclosed part in
-    let is : cut_items n q entry ≡ cut_item_of n entry ∷ [] = rw open_entry refl in
-    ap (λ (l : List ℕ). items n l) (sym (append-nil entry))
-    ∙ items_from-leads cut_items n Between q [] entry [] (leads-append Between p (spelling (first ∷ parts)) (unclosed part) on ∙ more) ∙ is
+    let (q, more, begun) = unclosed_leads (last_of_all 0 (first ∷ parts)) p part loose one in
+    cut_alone n q (spelling (first ∷ parts) ++ unclosed part) (leads-append Between p (spelling (first ∷ parts)) (unclosed part) on ∙ more) begun
+
+first_unclosed_leads : (part : Part) → begins_entry part ≡ true → is_part 0 part ≡ true → (q : Place) × (leads Between (unclosed part) ≡ Some q) × (is_entry q ≡ true)
+first_unclosed_leads (byte b) begins h =
+    let (q, on, loose) = first_leads (byte b) begins h in
+    (q, on, loose.entry)
+first_unclosed_leads (text bytes) begins h = (Text, text_begins bytes ∙ leads_lacks Text 39 (text_keeps Text refl) bytes h, text_open)
+first_unclosed_leads (name bytes) begins h = (Quoted, name_begins bytes ∙ leads_lacks Quoted 34 (quoted_keeps Quoted refl) bytes h, name_open)
+first_unclosed_leads (line bytes) begins h = absurd cc
+first_unclosed_leads (block bytes) begins h = absurd cc
+
+pub unclosed_first : (n : ℕ) (part : Part) → begins_entry part ≡ true → is_part 0 part ≡ true → items n (unclosed part) ≡ cut_item_of n (unclosed part) ∷ []
+unclosed_first n part begins one =
+    let (q, on, begun) = first_unclosed_leads part begins one in
+    cut_alone n q (unclosed part) on begun

@@ -4,7 +4,6 @@ use Rattle.std.specs.List.{before_first, after_first, list_all, list_any}
 use Rattle.std.specs.Str.{is_utf8}
 use Rattle.hs_entries.specs.declared.item.Item.{Item}
 use Rattle.hs_entries.specs.declared.item.Item.TheVariants.{Entry, Bad, TooLong}
-use Rattle.hs_entries.specs.declared.item.TheConstants.{MOST_BYTES, MOST_NAME_BYTES}
 
 abbrev pub is_letter : ℕ → Bool
 is_letter b = nat_le 65 b && nat_le b 90 || nat_le 97 b && nat_le b 122
@@ -19,7 +18,7 @@ is_name_byte b = is_letter b || is_digit b || b == 95
 -- the name of a session: a letter, and then up to 31 letters, digits and `_`
 abbrev pub is_session : List ℕ → Bool
 is_session [] = false
-is_session (b ∷ bs) = is_letter b && (nat_lt (length bs) MOST_NAME_BYTES && list_all is_name_byte bs)
+is_session (b ∷ bs) = is_letter b && (nat_lt (length bs) 32 && list_all is_name_byte bs)
 
 abbrev pub is_colon : ℕ → Bool
 is_colon b = b == 58
@@ -39,8 +38,9 @@ place_of bytes = length (session_of bytes) + 1
 abbrev pub has_session : List ℕ → Bool
 has_session bytes = list_any is_colon bytes && is_session (session_of bytes)
 
+-- more than 65,536 bytes, the `;` included
 abbrev pub is_too_long : List ℕ → Bool
-is_too_long bytes = nat_lt MOST_BYTES (length bytes)
+is_too_long bytes = nat_lt 65536 (length bytes)
 
 -- the item of a whole entry, up to its `;`, whose number is n
 unfoldable pub item_of : ℕ → List ℕ → Item
@@ -56,6 +56,6 @@ cut_item_of n bytes = if is_too_long bytes then TooLong n else Bad n
 -- these are the name of its session and its statement
 pub record IsSplit (bytes name text : List ℕ) : Type 0 where
   pub has : has_session bytes ≡ true
-  pub short : length name ≤ MOST_NAME_BYTES
+  pub short : length name ≤ 32
   pub session : name ≡ session_of bytes
   pub statement : text ≡ statement_of bytes

@@ -2,7 +2,6 @@
 use Rattle.std.specs.Prelude.{◌≡◌, ℕ, ◌+◌, ◌<◌, List, [], ◌∷◌, length, take, replicate}
 use Rattle.hs_entries.specs.declared.item.Item.{Item}
 use Rattle.hs_entries.specs.declared.item.Item.TheVariants.{Entry, Bad, TooLong, End}
-use Rattle.hs_entries.specs.declared.item.TheConstants.{MOST_BYTES}
 use Rattle.hs_entries.specs.declared.place.Place.{Place}
 use Rattle.hs_entries.specs.Items.{items_from, cut_items, no_items}
 
@@ -67,4 +66,4 @@ pub record Continues (old new : Left) : Type 0 where
 
 -- the front of an entry that is too long, whatever its bytes
 unfoldable pub long : List ℕ
-long = replicate (MOST_BYTES + 1) 0
+long = replicate 65537 0

@@ -2,12 +2,13 @@
 ghost use Rattle.std.specs.Prelude.{◌≡◌, ℕ, ◌+◌, true, false, List, [], ◌∷◌, ◌++◌};
 ghost use Rattle.hs_entries.specs.Entry.{item_of, cut_item_of};
 ghost use Rattle.hs_entries.specs.Items.{items};
-ghost use Rattle.hs_entries.specs.Parts.{Part, spelling, lacks, lacks_close, is_part, last_of_all, is_entry_of, unclosed};
+ghost use Rattle.hs_entries.specs.Parts.{Part, spelling, lacks, lacks_close, is_part, last_of_all, begins_entry, is_entry_of, unclosed};
 ghost use Rattle.hs_entries.specs.Place.{is_white};
 
 /// Before an entry white space is skipped, and so are a `--` comment up to its line feed or the end of the
-/// input and a `/*` comment up to its `*/`.
+/// input and a `/*` comment up to its `*/`. Where nothing stands behind them no entry comes.
 pub fn white_space_and_comments_are_skipped()
+    ensures nothing { (n : ℕ) → items n [] ≡ [] }
     ensures white { (n w : ℕ) (bytes : List ℕ) → is_white w ≡ true → items n (w ∷ bytes) ≡ items n bytes }
     ensures line { (n : ℕ) (comment bytes : List ℕ) → lacks 10 comment ≡ true → items n (45 ∷ 45 ∷ comment ++ 10 ∷ bytes) ≡ items n bytes }
     ensures last_line { (n : ℕ) (comment : List ℕ) → lacks 10 comment ≡ true → items n (45 ∷ 45 ∷ comment) ≡ [] }
@@ -25,4 +26,5 @@ pub fn entries_run_to_their_semicolon()
         items n (spelling (first ∷ parts)) ≡ cut_item_of n (spelling (first ∷ parts)) ∷ [] }
     ensures unclosed { (n : ℕ) (first : Part) (parts : List Part) (part : Part) → is_entry_of first parts ≡ true → is_part (last_of_all 0 (first ∷ parts)) part ≡ true →
         items n (spelling (first ∷ parts) ++ unclosed part) ≡ cut_item_of n (spelling (first ∷ parts) ++ unclosed part) ∷ [] }
+    ensures unclosed_first { (n : ℕ) (part : Part) → begins_entry part ≡ true → is_part 0 part ≡ true → items n (unclosed part) ≡ cut_item_of n (unclosed part) ∷ [] }
 {}

@@ -6,7 +6,7 @@ use std::alloc::{AllocError, Global};
 use std::test::Fail;
 
 // A limit, an input, and the answers up to the end or the first fault.
-static CASES: [(u64, &[u8], &str); 104] = [
+static CASES: [(u64, &[u8], &str); 106] = [
     (999, b"", "end"),
     (999, b" \t\r\n\x0c", "end"),
     (999, b"a: COMMIT;", "1:a@2: COMMIT;|end"),
@@ -35,6 +35,8 @@ static CASES: [(u64, &[u8], &str); 104] = [
     (999, b"a: ';", "1:bad|end"),
     (999, b"a: \";", "1:bad|end"),
     (999, b"a: 'x", "1:bad|end"),
+    (999, b"'a;", "1:bad|end"),
+    (999, b"\"a;", "1:bad|end"),
     // comments in an entry
     (999, b"a: 1 -- ;\n+2;", "1:a@2: 1 -- ;\n+2;|end"),
     (999, b"a: 1 -- ;", "1:bad|end"),

@@ -1,4 +1,4 @@
-use Rattle.hs_entries.proofs.Spelled.{whole_entry, lone_semicolon, cut_entry, unclosed_part}
+use Rattle.hs_entries.proofs.Spelled.{whole_entry, lone_semicolon, cut_entry, unclosed_part, unclosed_first}
 use Rattle.hs_entries.proofs.laws.entries_run_to_their_semicolon.Goals as goal
 
 pub returns-clause-whole : goal.returns-clause-whole
@@ -12,3 +12,6 @@ returns-clause-cut c = cut_entry
 
 pub returns-clause-unclosed : goal.returns-clause-unclosed
 returns-clause-unclosed c = unclosed_part
+
+pub returns-clause-unclosed_first : goal.returns-clause-unclosed_first
+returns-clause-unclosed_first c = unclosed_first
