@@ -45,6 +45,26 @@ ended 4 "hsql: disk fault" "$program" "$work/none/db" </dev/null >/dev/null
 mkdir "$work/taken.log"
 ended 4 "hsql: disk fault" "$program" "$work/taken" </dev/null >/dev/null
 
+# A run that waits for its input has the files; a second one changes nothing. The first line of output comes before the input.
+mkfifo "$work/waiting"
+"$program" "$work/db" <"$work/waiting" >"$work/first" &
+first=$!
+exec 3>"$work/waiting"
+until [ -s "$work/first" ]; do
+    kill -0 $first
+    sleep 0.1
+done
+cp "$work/db.log" "$work/before"
+ended 4 "hsql: disk fault" "$program" "$work/db" <"$work/commit" >"$work/second"
+ended 4 "hsql: disk fault" "$program" "$work/db" <"$work/commit" >>"$work/second"
+if [ -s "$work/second" ] || ! cmp -s "$work/db.log" "$work/before"; then
+    echo "statuses.sh: a second run wrote while the first was at work" >&2
+    exit 1
+fi
+exec 3>&-
+wait $first
+ended 0 "" "$program" "$work/db" </dev/null >/dev/null
+
 touch "$work/other.properties"
 ended 6 "hsql: damaged foreign" "$program" "$work/other" <"$work/commit" >/dev/null
 if [ -e "$work/other.log" ]; then

@@ -15,7 +15,8 @@ use std::rt::Files;
 
 /// A reader for the input, a writer for the output, and the files of a database once it is mounted.
 ///
-/// `Foreign` is answered where `name.properties` stands beside the files. A call on a file answers `Fault`
+/// `Foreign` is answered where `name.properties` stands beside the files. `mount` answers `Fault` also where another
+/// host has these files, and holds them for this host alone as long as it lives. A call on a file answers `Fault`
 /// where the system refuses it, and for a write that would make a file longer than 2^62 bytes.
 #[derive(Drop)]
 pub struct FileHost<'a, F: Files<File = File>, R: Read + Drop, W: Write + Drop> {

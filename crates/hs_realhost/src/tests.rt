@@ -78,6 +78,7 @@ fn keeps_bytes(rt: HostRuntime) -> Result<(), Fail> {
         host.write(FileKind::Log, 1 << 62, b"a"),
         Err(HostFault::Fault)
     );
+    drop(host);
     let mut again = FileHost::new(alloc, &rt, rt.reader(), io::writer(&rt));
     assert!(rt; again.mount(name.as_str()).is_ok());
     assert_eq!(rt; again.len(FileKind::Log), Ok(6));
@@ -91,6 +92,33 @@ fn mounted(rt: &HostRuntime, folder: &str, name: &str) -> Result<Result<(), Moun
     let name = format!(in alloc; "{folder}/{name}")?;
     let mut host = FileHost::new(alloc, rt, rt.reader(), io::writer(rt));
     Ok(host.mount(name.as_str()))
+}
+
+#[test]
+fn one_host_has_a_database(rt: HostRuntime) -> Result<(), Fail> {
+    let alloc = rt.alloc();
+    let folder = make_folder(&rt, "lock")?;
+    let name = format!(in alloc; "{folder}/db")?;
+    let mut host = FileHost::new(alloc, &rt, rt.reader(), io::writer(&rt));
+    assert!(rt; host.mount(name.as_str()).is_ok());
+    assert_eq!(rt; host.write(FileKind::Log, 0, b"abc"), Ok(()));
+    // A host that finds the lock taken makes no file, and doesn't free the lock as it goes.
+    let other = format!(in alloc; "{folder}/db.script")?;
+    fs::remove_file(&rt, other.as_str())?;
+    for _ in 0..2 {
+        assert_eq!(rt;
+            mounted(&rt, folder.as_str(), "db")?,
+            Err(MountFault::Fault)
+        );
+    }
+    assert!(rt; !fs::exists(&rt, other.as_str())?);
+    assert_eq!(rt; host.len(FileKind::Log), Ok(3));
+    assert_eq!(rt; mounted(&rt, folder.as_str(), "another")?, Ok(()));
+    drop(host);
+    assert_eq!(rt; mounted(&rt, folder.as_str(), "db")?, Ok(()));
+    assert!(rt; fs::exists(&rt, other.as_str())?);
+    fs::remove_dir_all(&rt, folder.as_str())?;
+    Ok(())
 }
 
 #[test]
