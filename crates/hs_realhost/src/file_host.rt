@@ -17,7 +17,8 @@ use std::rt::Files;
 ///
 /// `Foreign` is answered where `name.properties` stands beside the files. `mount` answers `Fault` also where another
 /// host has these files, and holds them for this host alone as long as it lives. A call on a file answers `Fault`
-/// where the system refuses it, and for a write that would make a file longer than 2^62 bytes.
+/// where the system refuses it, and for a write that would make a file longer than 2^62 bytes. Once a `sync` has failed,
+/// each later one answers `Fault` too.
 #[derive(Drop)]
 pub struct FileHost<'a, F: Files<File = File>, R: Read + Drop, W: Write + Drop> {
     alloc: Global,
@@ -26,6 +27,8 @@ pub struct FileHost<'a, F: Files<File = File>, R: Read + Drop, W: Write + Drop> 
     writer: W,
     name: Option<String>,
     files: Option<DatabaseFiles>,
+    // The system may tell of bytes that it couldn't bring to the disk only once, so no later sync is believed.
+    has_failed_sync: bool,
     input_faults: u64,
     output_faults: u64,
     disk_faults: u64,
@@ -46,6 +49,7 @@ impl<'a, F: Files<File = File>, R: Read + Drop, W: Write + Drop> FileHost<'a, F,
             writer,
             name: None,
             files: None,
+            has_failed_sync: false,
             input_faults: 0,
             output_faults: 0,
             disk_faults: 0,
@@ -164,7 +168,12 @@ impl<'a, F: Files<File = File>, R: Read + Drop, W: Write + Drop> Host for FileHo
     }
 
     fn sync(&mut self, file: FileKind) -> Result<(), HostFault> {
-        let outcome = self.files.as_ref().unwrap().sync(file);
+        let outcome = if self.has_failed_sync {
+            Err(io::Error::from(io::ErrorKind::Other))
+        } else {
+            self.files.as_ref().unwrap().sync(file)
+        };
+        self.has_failed_sync = outcome.is_err();
         counted(&mut self.disk_faults, outcome)
     }
 }

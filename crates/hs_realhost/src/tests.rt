@@ -6,6 +6,7 @@ ghost use Rattle.hs_host.specs.Files.{IsOpen};
 use crate::FileHost;
 use hs_host::{FileKind, Host, HostFault, MountFault, Source};
 use std::io::{Read, Write};
+use std::os::unix::fs::symlink;
 use std::test::Fail;
 use std::{env, fs, io, process};
 
@@ -117,6 +118,28 @@ fn one_host_has_a_database(rt: HostRuntime) -> Result<(), Fail> {
     drop(host);
     assert_eq!(rt; mounted(&rt, folder.as_str(), "db")?, Ok(()));
     assert!(rt; fs::exists(&rt, other.as_str())?);
+    fs::remove_dir_all(&rt, folder.as_str())?;
+    Ok(())
+}
+
+#[test]
+fn no_sync_is_believed_after_one_that_failed(rt: HostRuntime) -> Result<(), Fail> {
+    let alloc = rt.alloc();
+    let folder = make_folder(&rt, "sync")?;
+    let name = format!(in alloc; "{folder}/db")?;
+    // A device that can't be synced stands in for a disk that fails.
+    let pages = format!(in alloc; "{folder}/db.data")?;
+    symlink(&rt, "/dev/null", pages.as_str())?;
+    let mut host = FileHost::new(alloc, &rt, rt.reader(), io::writer(&rt));
+    assert!(rt; host.mount(name.as_str()).is_ok());
+    assert_eq!(rt; host.sync(FileKind::Log), Ok(()));
+    assert_eq!(rt; host.sync(FileKind::Data), Err(HostFault::Fault));
+    assert_eq!(rt; host.sync(FileKind::Log), Err(HostFault::Fault));
+    assert_eq!(rt; host.sync(FileKind::Log), Err(HostFault::Fault));
+    drop(host);
+    let mut again = FileHost::new(alloc, &rt, rt.reader(), io::writer(&rt));
+    assert!(rt; again.mount(name.as_str()).is_ok());
+    assert_eq!(rt; again.sync(FileKind::Log), Ok(()));
     fs::remove_dir_all(&rt, folder.as_str())?;
     Ok(())
 }
