@@ -6,6 +6,7 @@ ghost use Rattle.hs_host.specs.Host.{HasCause};
 ghost use Rattle.hs_realhost.specs.Standing.{standing_of, no_files, no_history};
 
 use crate::database_files::DatabaseFiles;
+use crate::streams::{read_from, write_to};
 use hs_host::{FileKind, Host, HostFault, MountFault, Source};
 use std::alloc::Global;
 use std::fs::File;
@@ -18,7 +19,7 @@ use std::rt::Files;
 /// `Foreign` is answered where `name.properties` stands beside the files. `mount` answers `Fault` also where another
 /// host has these files, and holds them for this host alone as long as it lives. A call on a file answers `Fault`
 /// where the system refuses it, and for a write that would make a file longer than 2^62 bytes. Once a `sync` has failed,
-/// each later one answers `Fault` too.
+/// each later one answers `Fault` too. A call that a signal interrupts is made again.
 #[derive(Drop)]
 pub struct FileHost<'a, F: Files<File = File>, R: Read + Drop, W: Write + Drop> {
     alloc: Global,
@@ -87,7 +88,7 @@ impl<'a, F: Files<File = File>, R: Read + Drop, W: Write + Drop> Source for File
     ghost read_on = { λ a b c ab bc. (bc.0 ∙ ab.0, bc.1 ∙ ab.1, bc.2 ∙ ab.2) };
 
     fn read_input(&mut self, buf: &mut [u8]) -> Result<usize, HostFault> {
-        let outcome = self.reader.read(buf);
+        let outcome = read_from(&mut self.reader, buf);
         counted(&mut self.input_faults, outcome)
     }
 }
@@ -116,7 +117,7 @@ impl<'a, F: Files<File = File>, R: Read + Drop, W: Write + Drop> Host for FileHo
     ghost reading_keeps_files = { λ a b read. (refl, read.1, read.2) };
 
     fn write_output(&mut self, bytes: &[u8]) -> Result<usize, HostFault> {
-        let outcome = self.writer.write(bytes);
+        let outcome = write_to(&mut self.writer, bytes);
         let taken = counted(&mut self.output_faults, outcome)?;
         if taken == 0 && !bytes.is_empty() {
             self.output_faults = self.output_faults.saturating_add(1);

@@ -171,14 +171,26 @@ fn leaves_other_files_alone(rt: HostRuntime) -> Result<(), Fail> {
     Ok(())
 }
 
-// A stream that has one byte and takes one, and fails from then on.
+// A stream that is interrupted a few times, then has one byte and takes one, and fails from then on.
 #[derive(Drop)]
 struct OneByte {
+    interruptions: u32,
     is_used: bool,
 }
 
 impl OneByte {
+    fn after(interruptions: u32) -> OneByte {
+        OneByte {
+            interruptions,
+            is_used: false,
+        }
+    }
+
     fn take(&mut self) -> io::Result<()> {
+        if self.interruptions > 0 {
+            self.interruptions -= 1;
+            return Err(io::Error::from(io::ErrorKind::Interrupted));
+        }
         if self.is_used {
             return Err(io::Error::from(io::ErrorKind::BrokenPipe));
         }
@@ -213,9 +225,18 @@ impl Write for OneByte {
 
 #[test]
 fn streams_are_read_and_written(rt: HostRuntime) {
-    let input = OneByte { is_used: false };
-    let output = OneByte { is_used: false };
-    let mut host = FileHost::new(rt.alloc(), &rt, input, output);
+    let mut host = FileHost::new(rt.alloc(), &rt, OneByte::after(0), OneByte::after(0));
+    let mut buf = [0; 3];
+    assert_eq!(rt; host.read_input(&mut buf), Ok(1));
+    assert_eq!(rt; buf, *b"i\0\0");
+    assert_eq!(rt; host.read_input(&mut buf), Err(HostFault::Fault));
+    assert_eq!(rt; host.write_output(b"xy"), Ok(1));
+    assert_eq!(rt; host.write_output(b"y"), Err(HostFault::Fault));
+}
+
+#[test]
+fn interrupted_calls_are_made_again(rt: HostRuntime) {
+    let mut host = FileHost::new(rt.alloc(), &rt, OneByte::after(3), OneByte::after(2));
     let mut buf = [0; 3];
     assert_eq!(rt; host.read_input(&mut buf), Ok(1));
     assert_eq!(rt; buf, *b"i\0\0");
