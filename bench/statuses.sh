@@ -104,8 +104,8 @@ ended 0 "" "$program" "$work/db" </dev/null >/dev/null
 
 touch "$work/other.properties"
 ended 6 "hsql: damaged foreign" "$program" "$work/other" <"$work/commit" >/dev/null
-if [ -e "$work/other.log" ]; then
-    echo "statuses.sh: a file was made beside foreign ones" >&2
+if [ "$(echo "$work"/other.*)" != "$work/other.properties" ] || [ -s "$work/other.properties" ]; then
+    echo "statuses.sh: a file was made beside foreign ones, or those were changed" >&2
     exit 1
 fi
 
