@@ -4,10 +4,10 @@
 # usage: bench/calls.sh
 #
 # No contract can see whether the host over real files does sync what it says, and no test of the gate does. Here each
-# write, cut and sync of the program, up to its end, must be the expected one: the folder is synced once the files are
-# made; a new log is written without its birth byte, synced, born, and synced; each commit is written behind its closed
-# gate, synced, its gate opened, and synced; and its reply is written behind that. It needs `strace`. This is no part
-# of the gate.
+# lock, write, cut and sync of the program, up to its end, must be the expected one: the log is locked; the folder is
+# synced once the files are made; a new log is written without its birth byte, synced, born, and synced; each commit is
+# written behind its closed gate, synced, its gate opened, and synced; and its reply is written behind that. It needs
+# `strace`. This is no part of the gate.
 set -eu
 top=$(cd "$(dirname "${BASH_SOURCE[0]}")/.." && pwd)
 work=$(mktemp -d)
@@ -20,11 +20,12 @@ fi
 program="$top/crates/hsql/out/hsql"
 
 # One call a line: its name, what it is of, and for a write how many bytes and, in a file, at which place.
-strace -y -o "$work/calls" -e trace=write,pwrite64,ftruncate,fdatasync,fsync "$program" "$work/db" \
+strace -y -o "$work/calls" -e trace=flock,write,pwrite64,ftruncate,fdatasync,fsync "$program" "$work/db" \
     <"$top/examples/first.sql" >"$work/output"
 cmp "$top/examples/first.out" "$work/output"
 sed -n -E \
     -e "s#[<(]$work/#<#" \
+    -e 's#^flock\([0-9]+<db\.([a-z.]+)>, LOCK_EX\|LOCK_NB\) = 0$#flock \1#p' \
     -e "s#^fsync\([0-9]+<$work>\).*#fsync folder#p" \
     -e 's#^(fdatasync|fsync)\([0-9]+<db\.([a-z.]+)>\).*= 0$#\1 \2#p' \
     -e 's#^ftruncate\([0-9]+<db\.([a-z.]+)>, ([0-9]+)\).*= 0$#ftruncate \1 to \2#p' \
@@ -32,6 +33,7 @@ sed -n -E \
     -e 's#^write\(1<output>, .*, ([0-9]+)\) = \1$#write output \1#p' \
     "$work/calls" >"$work/seen"
 cat >"$work/expected" <<'END'
+flock log
 fsync folder
 pwrite log 11 at 0
 ftruncate log to 11

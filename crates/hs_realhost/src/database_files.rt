@@ -24,7 +24,8 @@ pub struct DatabaseFiles {
 impl DatabaseFiles {
     /// Opens the five files of the database `name`, and makes missing ones empty. `Foreign` where
     /// `name.properties` stands there, or an entry of that name that leads nowhere: then no file is made or
-    /// touched. `NoMemory` where a path can't be built. Every other failure is `Fault`.
+    /// touched. `NoMemory` where a path can't be built. Every other failure is `Fault`, also that another has the
+    /// lock of `name.log`: then no file but that one is made.
     pub fn open<R: Files<File = File>>(
         alloc: Global,
         rt: &R,
@@ -37,10 +38,13 @@ impl DatabaseFiles {
         let _input = open_folder(rt, folder)?;
         let _output = open_folder(rt, folder)?;
         let _errors = open_folder(rt, folder)?;
+        // The lock lasts as long as this handle of the log. Without it no other file is made.
+        let log = open_file(alloc, rt, name, ".log")?;
+        lock(&log)?;
         let files = DatabaseFiles {
             script0: open_file(alloc, rt, name, ".script")?,
             script1: open_file(alloc, rt, name, ".script.new")?,
-            log: open_file(alloc, rt, name, ".log")?,
+            log,
             pages: open_file(alloc, rt, name, ".data")?,
             backup: open_file(alloc, rt, name, ".backup")?,
         };
@@ -128,6 +132,14 @@ fn open_file<R: Files<File = File>>(
         .open(rt, path.as_str());
     match opened {
         Ok(file) => Ok(file),
+        Err(_) => Err(MountFault::Fault),
+    }
+}
+
+// Takes the lock of a file, and doesn't wait for another that has it.
+fn lock(file: &File) -> Result<(), MountFault> {
+    match file.try_lock() {
+        Ok(()) => Ok(()),
         Err(_) => Err(MountFault::Fault),
     }
 }

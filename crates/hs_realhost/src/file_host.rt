@@ -6,6 +6,7 @@ ghost use Rattle.hs_host.specs.Host.{HasCause};
 ghost use Rattle.hs_realhost.specs.Standing.{standing_of, no_files, no_history};
 
 use crate::database_files::DatabaseFiles;
+use crate::streams::{read_from, write_to};
 use hs_host::{FileKind, Host, HostFault, MountFault, Source};
 use std::alloc::Global;
 use std::fs::File;
@@ -15,8 +16,10 @@ use std::rt::Files;
 
 /// A reader for the input, a writer for the output, and the files of a database once it is mounted.
 ///
-/// `Foreign` is answered where `name.properties` stands beside the files. A call on a file answers `Fault`
-/// where the system refuses it, and for a write that would make a file longer than 2^62 bytes.
+/// `Foreign` is answered where `name.properties` stands beside the files. `mount` answers `Fault` also where another
+/// host has these files, and holds them for this host alone as long as it lives. A call on a file answers `Fault`
+/// where the system refuses it, and for a write that would make a file longer than 2^62 bytes. Once a `sync` has failed,
+/// each later one answers `Fault` too. A call that a signal interrupts is made again.
 #[derive(Drop)]
 pub struct FileHost<'a, F: Files<File = File>, R: Read + Drop, W: Write + Drop> {
     alloc: Global,
@@ -25,6 +28,8 @@ pub struct FileHost<'a, F: Files<File = File>, R: Read + Drop, W: Write + Drop> 
     writer: W,
     name: Option<String>,
     files: Option<DatabaseFiles>,
+    // The system may tell of bytes that it couldn't bring to the disk only once, so no later sync is believed.
+    has_failed_sync: bool,
     input_faults: u64,
     output_faults: u64,
     disk_faults: u64,
@@ -45,6 +50,7 @@ impl<'a, F: Files<File = File>, R: Read + Drop, W: Write + Drop> FileHost<'a, F,
             writer,
             name: None,
             files: None,
+            has_failed_sync: false,
             input_faults: 0,
             output_faults: 0,
             disk_faults: 0,
@@ -82,7 +88,7 @@ impl<'a, F: Files<File = File>, R: Read + Drop, W: Write + Drop> Source for File
     ghost read_on = { λ a b c ab bc. (bc.0 ∙ ab.0, bc.1 ∙ ab.1, bc.2 ∙ ab.2) };
 
     fn read_input(&mut self, buf: &mut [u8]) -> Result<usize, HostFault> {
-        let outcome = self.reader.read(buf);
+        let outcome = read_from(&mut self.reader, buf);
         counted(&mut self.input_faults, outcome)
     }
 }
@@ -111,7 +117,7 @@ impl<'a, F: Files<File = File>, R: Read + Drop, W: Write + Drop> Host for FileHo
     ghost reading_keeps_files = { λ a b read. (refl, read.1, read.2) };
 
     fn write_output(&mut self, bytes: &[u8]) -> Result<usize, HostFault> {
-        let outcome = self.writer.write(bytes);
+        let outcome = write_to(&mut self.writer, bytes);
         let taken = counted(&mut self.output_faults, outcome)?;
         if taken == 0 && !bytes.is_empty() {
             self.output_faults = self.output_faults.saturating_add(1);
@@ -163,7 +169,12 @@ impl<'a, F: Files<File = File>, R: Read + Drop, W: Write + Drop> Host for FileHo
     }
 
     fn sync(&mut self, file: FileKind) -> Result<(), HostFault> {
-        let outcome = self.files.as_ref().unwrap().sync(file);
+        let outcome = if self.has_failed_sync {
+            Err(io::Error::from(io::ErrorKind::Other))
+        } else {
+            self.files.as_ref().unwrap().sync(file)
+        };
+        self.has_failed_sync = outcome.is_err();
         counted(&mut self.disk_faults, outcome)
     }
 }

@@ -5,6 +5,7 @@
 
 mod database_files;
 mod file_host;
+mod streams;
 #[cfg(test)]
 mod tests;
 

@@ -6,6 +6,7 @@ ghost use Rattle.hs_host.specs.Files.{IsOpen};
 use crate::FileHost;
 use hs_host::{FileKind, Host, HostFault, MountFault, Source};
 use std::io::{Read, Write};
+use std::os::unix::fs::symlink;
 use std::test::Fail;
 use std::{env, fs, io, process};
 
@@ -78,6 +79,7 @@ fn keeps_bytes(rt: HostRuntime) -> Result<(), Fail> {
         host.write(FileKind::Log, 1 << 62, b"a"),
         Err(HostFault::Fault)
     );
+    drop(host);
     let mut again = FileHost::new(alloc, &rt, rt.reader(), io::writer(&rt));
     assert!(rt; again.mount(name.as_str()).is_ok());
     assert_eq!(rt; again.len(FileKind::Log), Ok(6));
@@ -91,6 +93,55 @@ fn mounted(rt: &HostRuntime, folder: &str, name: &str) -> Result<Result<(), Moun
     let name = format!(in alloc; "{folder}/{name}")?;
     let mut host = FileHost::new(alloc, rt, rt.reader(), io::writer(rt));
     Ok(host.mount(name.as_str()))
+}
+
+#[test]
+fn one_host_has_a_database(rt: HostRuntime) -> Result<(), Fail> {
+    let alloc = rt.alloc();
+    let folder = make_folder(&rt, "lock")?;
+    let name = format!(in alloc; "{folder}/db")?;
+    let mut host = FileHost::new(alloc, &rt, rt.reader(), io::writer(&rt));
+    assert!(rt; host.mount(name.as_str()).is_ok());
+    assert_eq!(rt; host.write(FileKind::Log, 0, b"abc"), Ok(()));
+    // A host that finds the lock taken makes no file, and doesn't free the lock as it goes.
+    let other = format!(in alloc; "{folder}/db.script")?;
+    fs::remove_file(&rt, other.as_str())?;
+    for _ in 0..2 {
+        assert_eq!(rt;
+            mounted(&rt, folder.as_str(), "db")?,
+            Err(MountFault::Fault)
+        );
+    }
+    assert!(rt; !fs::exists(&rt, other.as_str())?);
+    assert_eq!(rt; host.len(FileKind::Log), Ok(3));
+    assert_eq!(rt; mounted(&rt, folder.as_str(), "another")?, Ok(()));
+    drop(host);
+    assert_eq!(rt; mounted(&rt, folder.as_str(), "db")?, Ok(()));
+    assert!(rt; fs::exists(&rt, other.as_str())?);
+    fs::remove_dir_all(&rt, folder.as_str())?;
+    Ok(())
+}
+
+#[test]
+fn no_sync_is_believed_after_one_that_failed(rt: HostRuntime) -> Result<(), Fail> {
+    let alloc = rt.alloc();
+    let folder = make_folder(&rt, "sync")?;
+    let name = format!(in alloc; "{folder}/db")?;
+    // A device that can't be synced stands in for a disk that fails.
+    let pages = format!(in alloc; "{folder}/db.data")?;
+    symlink(&rt, "/dev/null", pages.as_str())?;
+    let mut host = FileHost::new(alloc, &rt, rt.reader(), io::writer(&rt));
+    assert!(rt; host.mount(name.as_str()).is_ok());
+    assert_eq!(rt; host.sync(FileKind::Log), Ok(()));
+    assert_eq!(rt; host.sync(FileKind::Data), Err(HostFault::Fault));
+    assert_eq!(rt; host.sync(FileKind::Log), Err(HostFault::Fault));
+    assert_eq!(rt; host.sync(FileKind::Log), Err(HostFault::Fault));
+    drop(host);
+    let mut again = FileHost::new(alloc, &rt, rt.reader(), io::writer(&rt));
+    assert!(rt; again.mount(name.as_str()).is_ok());
+    assert_eq!(rt; again.sync(FileKind::Log), Ok(()));
+    fs::remove_dir_all(&rt, folder.as_str())?;
+    Ok(())
 }
 
 #[test]
@@ -120,14 +171,26 @@ fn leaves_other_files_alone(rt: HostRuntime) -> Result<(), Fail> {
     Ok(())
 }
 
-// A stream that has one byte and takes one, and fails from then on.
+// A stream that is interrupted a few times, then has one byte and takes one, and fails from then on.
 #[derive(Drop)]
 struct OneByte {
+    interruptions: u32,
     is_used: bool,
 }
 
 impl OneByte {
+    fn after(interruptions: u32) -> OneByte {
+        OneByte {
+            interruptions,
+            is_used: false,
+        }
+    }
+
     fn take(&mut self) -> io::Result<()> {
+        if self.interruptions > 0 {
+            self.interruptions -= 1;
+            return Err(io::Error::from(io::ErrorKind::Interrupted));
+        }
         if self.is_used {
             return Err(io::Error::from(io::ErrorKind::BrokenPipe));
         }
@@ -162,9 +225,18 @@ impl Write for OneByte {
 
 #[test]
 fn streams_are_read_and_written(rt: HostRuntime) {
-    let input = OneByte { is_used: false };
-    let output = OneByte { is_used: false };
-    let mut host = FileHost::new(rt.alloc(), &rt, input, output);
+    let mut host = FileHost::new(rt.alloc(), &rt, OneByte::after(0), OneByte::after(0));
+    let mut buf = [0; 3];
+    assert_eq!(rt; host.read_input(&mut buf), Ok(1));
+    assert_eq!(rt; buf, *b"i\0\0");
+    assert_eq!(rt; host.read_input(&mut buf), Err(HostFault::Fault));
+    assert_eq!(rt; host.write_output(b"xy"), Ok(1));
+    assert_eq!(rt; host.write_output(b"y"), Err(HostFault::Fault));
+}
+
+#[test]
+fn interrupted_calls_are_made_again(rt: HostRuntime) {
+    let mut host = FileHost::new(rt.alloc(), &rt, OneByte::after(3), OneByte::after(2));
     let mut buf = [0; 3];
     assert_eq!(rt; host.read_input(&mut buf), Ok(1));
     assert_eq!(rt; buf, *b"i\0\0");
