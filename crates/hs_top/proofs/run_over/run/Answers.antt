@@ -88,10 +88,11 @@ module _ (g : _) (c : After-serve g) (told : g.H.Source.tells) (honest : IsHones
       (subst (λ (w : List ℕ). IsSafeFromOpening (g.H.Host.files c.mount.new.host).log opened (g.H.Source.unread c.mount.new.host) w (g.H.Host.history c.mount.new.host) (g.H.Host.history c.serve.new.host)) c.mount.ensures.written
       (c.serve.ensures.crash told (still g c honest) quiet_mounted opened is_mounted))))
 
-  safe_in_run : (m : Moment) → IsSafe opened (g.H.Source.unread c.mount.new.host) (g.H.Host.written c.mount.new.host) m → IsSafe opened (g.H.Source.unread c.args.host.now) (g.H.Host.written c.args.host.now) m
+  safe_in_run : (m : Moment) → IsSafe (g.H.Host.files c.mount.new.host).log opened (g.H.Source.unread c.mount.new.host) (g.H.Host.written c.mount.new.host) m → IsSafe (g.H.Host.files c.args.host.now).log opened (g.H.Source.unread c.args.host.now) (g.H.Host.written c.args.host.now) m
   safe_in_run m safe =
-      subst (λ (i : List ℕ). IsSafe opened i (g.H.Host.written c.args.host.now) m) c.mount.ensures.unread
-      (subst (λ (w : List ℕ). IsSafe opened (g.H.Source.unread c.mount.new.host) w m) c.mount.ensures.written safe)
+      subst (λ (old : List ℕ). IsSafe old opened (g.H.Source.unread c.args.host.now) (g.H.Host.written c.args.host.now) m) (same_log g c told)
+      (subst (λ (i : List ℕ). IsSafe (g.H.Host.files c.mount.new.host).log opened i (g.H.Host.written c.args.host.now) m) c.mount.ensures.unread
+      (subst (λ (w : List ℕ). IsSafe (g.H.Host.files c.mount.new.host).log opened (g.H.Source.unread c.mount.new.host) w m) c.mount.ensures.written safe))
 
 pub returns-in-Ok-clause-crash : goal.returns-in-Ok-clause-crash
 returns-in-Ok-clause-crash g c = λ told honest quiet opened is. opens g (goal.at.returns-in-Ok-clause-crash g c).After-serve told honest quiet opened is
@@ -113,7 +114,7 @@ returns-in-Err-clause-safe g c = λ told honest quiet opened is has.
     let input = g.H.Source.unread c.args.host.now in
     let before = g.H.Host.written c.args.host.now in
     let h = g.H.Host.history c.args.host.now in
-    subst (λ (new : History). IsSafe opened input before new.now) (sym (c.mount.ensures.history told))
+    subst (λ (new : History). IsSafe old opened input before new.now) (sym (c.mount.ensures.history told))
     (kept_safe old opened input before h h c.in-Err.status is quiet (g.met.H.Host.output_now c.args.host.now told) (not_opened old opened input before h)
     (λ later. absurd (not_mounted_as c.in-Err.status c.in-Err.ensures.only later)) has)
 
@@ -134,20 +135,20 @@ still_after : (g : _) (c : After-serve g) → IsHonest (g.H.Host.standing c.args
 still_after g c honest = subst IsHonest (sym c.serve.ensures.standing) (still g c honest)
 
 left_in_run : (g : _) (c : After-serve g) → g.H.Source.tells → IsHonest (g.H.Host.standing c.args.host.now) → (opened : Opened)
-    → IsSafe opened (g.H.Source.unread c.args.host.now) (g.H.Host.written c.args.host.now) (g.H.Host.history c.serve.new.host).now
-    → Survives opened (g.H.Source.unread c.args.host.now) (g.H.Host.written c.args.host.now) (g.H.Host.written c.serve.new.host) (g.H.Host.files c.serve.new.host).log
+    → IsSafe (g.H.Host.files c.args.host.now).log opened (g.H.Source.unread c.args.host.now) (g.H.Host.written c.args.host.now) (g.H.Host.history c.serve.new.host).now
+    → Survives (g.H.Host.files c.args.host.now).log opened (g.H.Source.unread c.args.host.now) (g.H.Host.written c.args.host.now) (g.H.Host.written c.serve.new.host) (g.H.Host.files c.serve.new.host).log
 left_in_run g c told honest opened safe =
-    left_now opened (g.H.Source.unread c.args.host.now) (g.H.Host.written c.args.host.now) (g.H.Host.history c.serve.new.host).now (g.H.Host.written c.serve.new.host) (g.H.Host.files c.serve.new.host).log
+    left_now (g.H.Host.files c.args.host.now).log opened (g.H.Source.unread c.args.host.now) (g.H.Host.written c.args.host.now) (g.H.Host.history c.serve.new.host).now (g.H.Host.written c.serve.new.host) (g.H.Host.files c.serve.new.host).log
     safe (g.met.H.Host.output_now c.serve.new.host told) (g.met.H.Host.read_may_be_left c.serve.new.host told (still_after g c honest) file.Log)
 
 pub returns-in_default-clause-left : goal.returns-in_default-clause-left
 returns-in_default-clause-left g c = λ told honest quiet opened is has.
-    left_now opened (g.H.Source.unread c.args.host.now) (g.H.Host.written c.args.host.now) (g.H.Host.history c.args.host.now).now (g.H.Host.written c.args.host.now) (g.H.Host.files c.args.host.now).log
+    left_now (g.H.Host.files c.args.host.now).log opened (g.H.Source.unread c.args.host.now) (g.H.Host.written c.args.host.now) (g.H.Host.history c.args.host.now).now (g.H.Host.written c.args.host.now) (g.H.Host.files c.args.host.now).log
     (returns-in_default-clause-safe g c told honest quiet opened is has) (g.met.H.Host.output_now c.args.host.now told) (g.met.H.Host.read_may_be_left c.args.host.now told honest file.Log)
 
 pub returns-in-Err-clause-left : goal.returns-in-Err-clause-left
 returns-in-Err-clause-left g c = λ told honest quiet opened is has.
-    left_now opened (g.H.Source.unread c.args.host.now) (g.H.Host.written c.args.host.now) (g.H.Host.history c.mount.new.host).now (g.H.Host.written c.mount.new.host) (g.H.Host.files c.mount.new.host).log
+    left_now (g.H.Host.files c.args.host.now).log opened (g.H.Source.unread c.args.host.now) (g.H.Host.written c.args.host.now) (g.H.Host.history c.mount.new.host).now (g.H.Host.written c.mount.new.host) (g.H.Host.files c.mount.new.host).log
     (returns-in-Err-clause-safe g c told honest quiet opened is has) (g.met.H.Host.output_now c.mount.new.host told)
     (g.met.H.Host.read_may_be_left c.mount.new.host told (subst (λ (b : Bool). IsTrue b) (sym c.mount.ensures.honest) honest) file.Log)
 

@@ -45,7 +45,7 @@ answer_all-requires-clause-counted g c = λ told honest.
 -- at each moment of the work the log is safe
 works : (g : _) (c : After-answer_all g) → g.H.Source.tells → IsHonest (g.H.Host.standing c.args.host.now) → (opened : Opened) → opened_of (g.H.Host.files c.args.host.now).log ≡ Ok opened → (m : Moment)
     → IsHeld (length (texts_in (g.H.Host.files c.open_log.new.host))) (texts_in (g.H.Host.files c.open_log.new.host) ++ texts_from (opened_by c.in-Ok.opening) (g.H.Source.unread c.open_log.new.host)) (g.H.Host.written c.open_log.new.host) m
-    → IsSafe opened (g.H.Source.unread c.args.host.now) (g.H.Host.written c.args.host.now) m
+    → IsSafe (g.H.Host.files c.args.host.now).log opened (g.H.Source.unread c.args.host.now) (g.H.Host.written c.args.host.now) m
 works g c told honest opened is m held =
     let old = (g.H.Host.files c.args.host.now).log in
     let input = g.H.Source.unread c.args.host.now in
@@ -60,7 +60,7 @@ works g c told honest opened is m held =
 
 -- and so it is when it is open
 opened_safe : (g : _) (c : After-answer_all g) → g.H.Source.tells → IsHonest (g.H.Host.standing c.args.host.now) → (opened : Opened) → opened_of (g.H.Host.files c.args.host.now).log ≡ Ok opened
-    → IsSafe opened (g.H.Source.unread c.args.host.now) (g.H.Host.written c.args.host.now) (g.H.Host.history c.open_log.new.host).now
+    → IsSafe (g.H.Host.files c.args.host.now).log opened (g.H.Source.unread c.args.host.now) (g.H.Host.written c.args.host.now) (g.H.Host.history c.open_log.new.host).now
 opened_safe g c told honest opened is =
     let ok = c.in-Ok.ensures in
     works g c told honest opened is (g.H.Host.history c.open_log.new.host).now
@@ -69,7 +69,7 @@ opened_safe g c told honest opened is =
 
 -- from then on
 each_safe : (g : _) (c : After-answer_all g) → g.H.Source.tells → IsHonest (g.H.Host.standing c.args.host.now) → (opened : Opened) → opened_of (g.H.Host.files c.args.host.now).log ≡ Ok opened
-    → Since (IsSafe opened (g.H.Source.unread c.args.host.now) (g.H.Host.written c.args.host.now)) (g.H.Host.history c.open_log.new.host) (g.H.Host.history c.answer_all.new.host)
+    → Since (IsSafe (g.H.Host.files c.args.host.now).log opened (g.H.Source.unread c.args.host.now) (g.H.Host.written c.args.host.now)) (g.H.Host.history c.open_log.new.host) (g.H.Host.history c.answer_all.new.host)
 each_safe g c told honest opened is =
     let still : IsHonest (g.H.Host.standing c.open_log.new.host) = subst IsHonest (sym c.in-Ok.ensures.standing) honest in
     since_weaker (c.answer_all.ensures.moments told still) (works g c told honest opened is)
