@@ -7,7 +7,7 @@ use Rattle.hs_host.specs.Moments.{Moment, History, Since, disk_of}
 use Rattle.hs_host.specs.declared.file_kind.FileKind.TheVariants.{Log}
 use Rattle.hs_top.specs.declared.status.Status.{Status}
 use Rattle.hs_top.specs.Machine.{machine, steps, texts}
-use Rattle.hs_top.specs.Opening.{Opened, opened_of, opened_at, texts_at, begun_with}
+use Rattle.hs_top.specs.Opening.{Opened, nothing_logged, opened_of, opened_at, texts_at, begun_with}
 use Rattle.hs_top.specs.Running.{has_opened}
 use Rattle.hs_top.specs.Acknowledged.{AcknowledgesAtMost}
 
@@ -49,13 +49,19 @@ IsUnchanged old m = (log : List ℕ) → Leaves (disk_of m Log) log → GivesSam
 abbrev pub IsOpening : List ℕ → List ℕ → Moment → Type 0
 IsOpening old before m = (m.out ≡ before) × ((is_born old ≡ false) ⊎ IsUnchanged old m)
 
--- A run opens its log, and each moment from then on is safe, that of the opened log too. A run that ended while it opened
--- the log has no such moment.
-pub record IsSafeFromOpening (old : List ℕ) (opened : Opened) (input before : List ℕ) (start now : History) : Type 0 where
+-- A run opens its log: there is a moment at which whatever a crash leaves of it gives what it gave when the run began.
+-- That moment is safe, and so is each one from then on. A run that ended while it opened the log has no such moment, and
+-- its status doesn't say that the log is open.
+pub record IsSafeFromOpening (old : List ℕ) (opened : Opened) (input before : List ℕ) (status : Status) (start now : History) : Type 0 where
   pub opening : History
   pub begins : Since (IsOpening old before) start opening
-  pub first : (now ≡ opening) ⊎ IsSafe old opened input before opening.now
+  pub first : ((has_opened status ≡ false) × (now ≡ opening)) ⊎ (IsUnchanged old opening.now × IsSafe old opened input before opening.now)
   pub each : Since (IsSafe old opened input before) opening now
+
+-- The log still isn't born, or it is a new one, and the next run over it begins with what this one had made after some
+-- number of its turns.
+abbrev pub IsUnbornOrSurvives : List ℕ → List ℕ → List ℕ → List ℕ → List ℕ → Type 0
+IsUnbornOrSurvives old input before out log = (is_born log ≡ false) ⊎ Survives old nothing_logged input before out log
 
 -- a run with this status has a log that is open, or began with one that was born
 abbrev pub HasLog : List ℕ → Status → Type 0

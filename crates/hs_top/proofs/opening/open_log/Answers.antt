@@ -1,5 +1,6 @@
-use Rattle.std.proofs.Common.{sym, subst, ◌∙◌}
-use Rattle.hs_host.specs.Files.{IsHonest}
+use Rattle.std.proofs.Common.{◌≡◌, ℕ, true, false, List, inl, sym, ap, subst, ◌∙◌}
+use Rattle.hs_host.specs.Files.{Five, IsHonest}
+use Rattle.hs_gate.specs.Groups.{is_born}
 use Rattle.hs_top.proofs.Openings.{opening_on, unborn_opening}
 use Rattle.hs_top.proofs.opening.open_log.Goals as goal
 
@@ -12,3 +13,15 @@ pub returns-else-branch-clause-moments : goal.returns-else-branch-clause-moments
 returns-else-branch-clause-moments g c = λ told honest quiet.
     let after : IsHonest (g.H.Host.standing c.is_born.new.host) = subst IsHonest (sym c.is_born.ensures.standing) honest in
     unborn_opening (g.H.Host.files c.args.host.now).log (sym (c.in_ok-is_born.ensures.born told honest) ∙ c.if-branch.false) (c.is_born.ensures.moments told honest) (c.new_log.ensures.moments told after)
+
+pub returns-in_err-is_born-clause-begun : goal.returns-in_err-is_born-clause-begun
+returns-in_err-is_born-clause-begun g c = λ told honest unborn. inl (ap (λ (f : Five (List ℕ)). is_born f.log) (c.is_born.ensures.files told honest) ∙ unborn)
+
+pub returns-then-branch-clause-begun : goal.returns-then-branch-clause-begun
+returns-then-branch-clause-begun g c = λ told honest unborn.
+    absurd (let e : true ≡ false = sym c.if-branch.true ∙ (c.in_ok-is_born.ensures.born told honest ∙ unborn) in cc)
+
+pub returns-else-branch-clause-begun : goal.returns-else-branch-clause-begun
+returns-else-branch-clause-begun g c = λ told honest unborn.
+    let after : IsHonest (g.H.Host.standing c.is_born.new.host) = subst IsHonest (sym c.is_born.ensures.standing) honest in
+    c.new_log.ensures.begun told after (ap (λ (f : Five (List ℕ)). is_born f.log) (c.is_born.ensures.files told honest) ∙ unborn)
