@@ -16,8 +16,9 @@ use Rattle.hs_gate.specs.Groups.{Groups, groups_of, is_born, is_open, epoch_of}
 use Rattle.hs_gate.proofs.Fronts.{open_same, epoch_same, end_within}
 use Rattle.hs_gate.proofs.Moments.{disk_is, settled_keeps}
 use Rattle.hs_gate.proofs.Pieces.{take_same}
-use Rattle.hs_top.specs.Crash.{GivesSame, IsOpening}
+use Rattle.hs_top.specs.Crash.{GivesSame, IsOpening, IsLogAlone}
 use Rattle.hs_top.specs.Opening.{Opened, nothing_logged, replayed, unless_broken, opened_of, texts_at}
+use Rattle.hs_top.proofs.Alone.{alone_reading, alone_writing, alone_on}
 use Rattle.hs_top.proofs.Holding.{born_same}
 use Rattle.hs_top.proofs.Safe.{same_gives}
 
@@ -97,6 +98,14 @@ settle_opening {a} {b} {c} old files front same born read closed quiet ab settle
     since_join (still_opening old.log quiet ab)
     (since_weaker (settles (settled_calm old files a b front.gated file same quiet ab stands.front))
     (λ m one. settle_at old files a.now b.now m front.gated file same born (still_now ab) stands one))
+
+-- and all the while the log alone is touched
+pub settle_alone : {a b c : History} (old files : Five (List ℕ)) (front : Front) → files ≡ old → Some front ≡ reading_of Log old.log → front.is_broken ≡ false → disk_of a.now Log ≡ settled old.log
+    → Since (IsStill a.now) a b → (IsCalm b files front.gated → Since (OneFile b.now front.gated.file (IsAsBefore (of files front.gated.file) front.gated.end)) b c) → Since (IsLogAlone a.now) a c
+settle_alone {a} {b} {c} old files front same read closed quiet ab settles =
+    let file : front.gated.file ≡ Log = ap (λ (f : Front). f.gated.file) (reads_open old.log front (is_open old.log) read).1 in
+    let stands : IsGated files front.gated = subst (λ (f : Five (List ℕ)). IsGated f front.gated) (sym same) (reads_gated old front read closed) in
+    alone_on (alone_reading ab) (alone_writing front.gated.file file (settles (settled_calm old files a b front.gated file same quiet ab stands.front)))
 
 -- an opening behind reads
 pub opening_on : {a b c : History} (old files : Five (List ℕ)) → files ≡ old → disk_of a.now Log ≡ settled old.log → Since (IsStill a.now) a b

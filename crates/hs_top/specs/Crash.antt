@@ -3,6 +3,7 @@ use Rattle.std.specs.Prelude.{◌≡◌, ◌⊎◌, ℕ, true, false, List, ◌+
 use Rattle.hs_entries.specs.Items.{items}
 use Rattle.hs_gate.specs.Groups.{is_born}
 use Rattle.hs_host.specs.Disk.{Leaves}
+use Rattle.hs_host.specs.Files.{with_}
 use Rattle.hs_host.specs.Moments.{Moment, History, Since, disk_of}
 use Rattle.hs_host.specs.declared.file_kind.FileKind.TheVariants.{Log}
 use Rattle.hs_top.specs.declared.status.Status.{Status}
@@ -44,6 +45,11 @@ GivesSame old log = (opened_of log ≡ opened_of old) × (texts_at log ≡ texts
 -- so it does whatever a crash at this moment leaves of it
 abbrev pub IsUnchanged : List ℕ → Moment → Type 0
 IsUnchanged old m = (log : List ℕ) → Leaves (disk_of m Log) log → GivesSame old log
+
+-- Of what the disk has of the files, only what it has of the log may be other than at a moment before. So a crash leaves of
+-- the other files what it might have left then.
+abbrev pub IsLogAlone : Moment → Moment → Type 0
+IsLogAlone before m = m.disks ≡ with_ before.disks Log (disk_of m Log)
 
 -- While a log is opened nothing is told, and whatever a crash leaves of a born one gives what it gives.
 abbrev pub IsOpening : List ℕ → List ℕ → Moment → Type 0

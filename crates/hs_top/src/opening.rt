@@ -5,7 +5,7 @@ ghost use Rattle.hs_gate.specs.Crash.{IsAny, IsCalm};
 ghost use Rattle.hs_host.specs.Disk.{settled};
 ghost use Rattle.hs_host.specs.Files.{of, IsOpen, IsHonest};
 ghost use Rattle.hs_host.specs.Moments.{Since, OneFile, IsStill, disk_of};
-ghost use Rattle.hs_top.specs.Crash.{IsOpening};
+ghost use Rattle.hs_top.specs.Crash.{IsOpening, IsLogAlone};
 ghost use Rattle.hs_gate.specs.Gated.{IsFront, IsPlace, TakesPart, IsUnbornOrCreated};
 ghost use Rattle.hs_gate.specs.Groups.{is_born};
 ghost use Rattle.hs_top.specs.CommitText.{IsChange};
@@ -44,6 +44,7 @@ pub fn open_log<H: Host>(alloc: Global, host: &mut H) -> Result<Opening, Status>
     ensures sound { IfOk result (λ o. IsSound o.log) }
     ensures room { IfOk result (λ o. HasRoom o.database.commits o.log) }
     ensures moments { H.tells → IsHonest (H.standing host.old) → disk_of (H.history host.old).now FileKind.Log ≡ settled (H.files host.old).log → Since (IsOpening (H.files host.old).log (H.history host.old).now.out) (H.history host.old) (H.history host.new) }
+    ensures alone { H.tells → IsHonest (H.standing host.old) → disk_of (H.history host.old).now FileKind.Log ≡ settled (H.files host.old).log → Since (IsLogAlone (H.history host.old).now) (H.history host.old) (H.history host.new) }
     ensures calm { H.tells → IsHonest (H.standing host.old) → IfOk result (λ o. IsCalm (H.history host.new) (H.files host.new) o.log.gated) }
     ensures disk_fault { IsErrOf result Status.DiskFault → Rose (H.disk_faults host.old) (H.disk_faults host.new) }
     ensures only { IsErrOf result Status.Done ⊎ (IsErrOf result Status.Usage ⊎ (IsErrOf result Status.InputFault ⊎ (IsErrOf result Status.OutputFault ⊎ IsErrOf result Status.InputTooLong))) → ⊥ }
@@ -105,6 +106,7 @@ fn read_log<H: Host>(alloc: Global, host: &mut H) -> Result<Opening, Status>
     ensures sound { IfOk result (λ o. IsSound o.log) }
     ensures room { IfOk result (λ o. HasRoom o.database.commits o.log) }
     ensures moments { H.tells → IsHonest (H.standing host.old) → disk_of (H.history host.old).now FileKind.Log ≡ settled (H.files host.old).log → Since (IsOpening (H.files host.old).log (H.history host.old).now.out) (H.history host.old) (H.history host.new) }
+    ensures alone { H.tells → IsHonest (H.standing host.old) → disk_of (H.history host.old).now FileKind.Log ≡ settled (H.files host.old).log → Since (IsLogAlone (H.history host.old).now) (H.history host.old) (H.history host.new) }
     ensures calm { H.tells → IsHonest (H.standing host.old) → IfOk result (λ o. IsCalm (H.history host.new) (H.files host.new) o.log.gated) }
     ensures disk_fault { IsErrOf result Status.DiskFault → Rose (H.disk_faults host.old) (H.disk_faults host.new) }
     ensures only { IsErrOf result Status.Done ⊎ (IsErrOf result Status.Usage ⊎ (IsErrOf result Status.InputFault ⊎ (IsErrOf result Status.OutputFault ⊎ IsErrOf result Status.InputTooLong))) → ⊥ }

@@ -4,8 +4,9 @@ use Rattle.hs_host.specs.declared.file_kind.FileKind.TheVariants as file
 use Rattle.hs_host.specs.Disk.{settled}
 use Rattle.hs_gate.specs.Groups.{is_born}
 use Rattle.hs_host.specs.Host.{Rose}
-use Rattle.hs_host.specs.Moments.{Moment, History, disk_of}
-use Rattle.hs_top.specs.Crash.{IsSafe, IsSafeFromOpening, IsUnbornOrSurvives, Survives}
+use Rattle.hs_host.specs.Moments.{Moment, History, Since, disk_of}
+use Rattle.hs_host.proofs.Passing.{since_none}
+use Rattle.hs_top.specs.Crash.{IsSafe, IsSafeFromOpening, IsUnbornOrSurvives, IsLogAlone, Survives}
 use Rattle.hs_top.specs.declared.damage.Damage.{Damage}
 use Rattle.hs_top.specs.declared.damage.Damage.TheVariants.{Log}
 use Rattle.hs_top.specs.declared.status.Status.{Status}
@@ -198,3 +199,23 @@ returns-in-Ok-clause-begun g c = begun_in_run g (goal.at.returns-in-Ok-clause-be
 
 pub returns-in-Err-serve-clause-begun : goal.returns-in-Err-serve-clause-begun
 returns-in-Err-serve-clause-begun g c = begun_in_run g (goal.at.returns-in-Err-serve-clause-begun g c).After-serve
+
+-- of the disk the log alone is touched
+pub returns-in_default-clause-alone : goal.returns-in_default-clause-alone
+returns-in_default-clause-alone g c = λ told honest quiet. since_none _ _
+
+pub returns-in-Err-clause-alone : goal.returns-in-Err-clause-alone
+returns-in-Err-clause-alone g c = λ told honest quiet.
+    let h = g.H.Host.history c.args.host.now in
+    subst (λ (new : History). Since (IsLogAlone h.now) h new) (sym (c.mount.ensures.history told)) (since_none _ h)
+
+alone_in_run : (g : _) (c : After-serve g) → g.H.Source.tells → IsHonest (g.H.Host.standing c.args.host.now) → disk_of (g.H.Host.history c.args.host.now).now file.Log ≡ settled (g.H.Host.files c.args.host.now).log
+    → Since (IsLogAlone (g.H.Host.history c.args.host.now).now) (g.H.Host.history c.args.host.now) (g.H.Host.history c.serve.new.host)
+alone_in_run g c told honest quiet =
+    subst (λ (h : History). Since (IsLogAlone h.now) h (g.H.Host.history c.serve.new.host)) (c.mount.ensures.history told) (c.serve.ensures.alone told (still g c honest) (quiet_mounted g c told honest quiet))
+
+pub returns-in-Ok-clause-alone : goal.returns-in-Ok-clause-alone
+returns-in-Ok-clause-alone g c = alone_in_run g (goal.at.returns-in-Ok-clause-alone g c).After-serve
+
+pub returns-in-Err-serve-clause-alone : goal.returns-in-Err-serve-clause-alone
+returns-in-Err-serve-clause-alone g c = alone_in_run g (goal.at.returns-in-Err-serve-clause-alone g c).After-serve

@@ -7,6 +7,7 @@ use Rattle.hs_top.specs.Crash.{IsSafe, IsSafeFromOpening, IsUnchanged, IsOpening
 use Rattle.hs_top.specs.Holding.{IsHeld}
 use Rattle.hs_top.specs.Opening.{Opened, nothing_logged, opened_of, opened_by, texts_at, texts_from}
 use Rattle.hs_top.specs.Running.{texts_in}
+use Rattle.hs_top.proofs.Alone.{alone_on}
 use Rattle.hs_top.proofs.Created.{unborn_gives, unborn_or_created}
 use Rattle.hs_top.proofs.Endings.{damaged_as, not_opened_as, not_both, safe_either, any_status}
 use Rattle.hs_top.proofs.Holding.{held_opened}
@@ -122,3 +123,11 @@ returns-clause-begun g c = λ told honest unborn.
     inr (left_now old nothing_logged (g.H.Source.unread c.args.host.now) (g.H.Host.written c.args.host.now) (g.H.Host.history c.answer_all.new.host).now (g.H.Host.written c.answer_all.new.host) (g.H.Host.files c.answer_all.new.host).log
     (safe_now (opened_safe g at told honest nothing_logged is) (each_safe g at told honest nothing_logged is))
     (g.met.H.Host.output_now c.answer_all.new.host told) (g.met.H.Host.read_may_be_left c.answer_all.new.host told after Log))
+
+pub returns-in-Err-clause-alone : goal.returns-in-Err-clause-alone
+returns-in-Err-clause-alone g c = λ told honest quiet. c.open_log.ensures.alone told honest quiet
+
+pub returns-clause-alone : goal.returns-clause-alone
+returns-clause-alone g c = λ told honest quiet.
+    let still : IsHonest (g.H.Host.standing c.open_log.new.host) = subst IsHonest (sym c.in-Ok.ensures.standing) honest in
+    alone_on (c.open_log.ensures.alone told honest quiet) (c.answer_all.ensures.alone told still)
