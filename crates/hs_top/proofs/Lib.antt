@@ -1,5 +1,7 @@
+pub mod Alone
 pub mod Begun
 pub mod Committed
+pub mod Created
 pub mod Digits
 pub mod Endings
 pub mod Entries

@@ -1,5 +1,5 @@
 -- What a crash leaves of a log while it is opened.
-use Rattle.std.proofs.Common.{◌≡◌, ℕ, ◌+◌, ◌<◌, ◌≤◌, ◌==◌, ◌&&◌, Bool, true, false, cond, List, length, take, None, Some, Result, Ok, Err, inl, inr, refl, sym, ◌∙◌, ap, subst, arith}
+use Rattle.std.proofs.Common.{◌≡◌, ℕ, ◌+◌, ◌<◌, ◌≤◌, ◌==◌, ◌&&◌, Bool, true, false, cond, List, [], length, take, None, Some, Result, Ok, Err, inl, inr, refl, sym, ◌∙◌, ap, subst, arith}
 use Rattle.std.proofs.lemmas.Option.{same_Some}
 use Rattle.hs_host.specs.declared.file_kind.FileKind.{FileKind}
 use Rattle.hs_host.specs.declared.file_kind.FileKind.TheVariants.{Log}
@@ -16,9 +16,11 @@ use Rattle.hs_gate.specs.Groups.{Groups, groups_of, is_born, is_open, epoch_of}
 use Rattle.hs_gate.proofs.Fronts.{open_same, epoch_same, end_within}
 use Rattle.hs_gate.proofs.Moments.{disk_is, settled_keeps}
 use Rattle.hs_gate.proofs.Pieces.{take_same}
-use Rattle.hs_top.specs.Crash.{IsOpening}
-use Rattle.hs_top.specs.Opening.{Opened, nothing_logged, replayed, unless_broken, opened_of}
+use Rattle.hs_top.specs.Crash.{GivesSame, IsOpening, IsLogAlone}
+use Rattle.hs_top.specs.Opening.{Opened, nothing_logged, replayed, unless_broken, opened_of, texts_at}
+use Rattle.hs_top.proofs.Alone.{alone_reading, alone_writing, alone_on}
 use Rattle.hs_top.proofs.Holding.{born_same}
+use Rattle.hs_top.proofs.Safe.{same_gives}
 
 -- what a log gives, by its birth byte, its header gate, its epoch and its groups
 abbrev gives : Bool → Bool → ℕ → Groups → Result Opened ℕ
@@ -31,15 +33,21 @@ opened_same new old born opened epoch groups =
     ∙ ap (λ (n : ℕ). gives (is_born old) (is_open old) n (groups_of new)) epoch
     ∙ ap (λ (g : Groups). gives (is_born old) (is_open old) (epoch_of old) g) groups
 
+texts_same : (new old : List ℕ) → is_born new ≡ is_born old → groups_of new ≡ groups_of old → texts_at new ≡ texts_at old
+texts_same new old born groups =
+    ap (λ (b : Bool). cond b (groups_of new).payloads []) born
+    ∙ ap (λ (g : Groups). cond (is_born old) g.payloads []) groups
+
 -- what begins with an open born log up to its end, and has the same groups, gives the same
-as_before_same : (old left : List ℕ) (end : ℕ) → is_born old ≡ true → is_open old ≡ true → 10 ≤ end → IsAsBefore old end left → opened_of left ≡ opened_of old
+as_before_same : (old left : List ℕ) (end : ℕ) → is_born old ≡ true → is_open old ≡ true → 10 ≤ end → IsAsBefore old end left → GivesSame old left
 as_before_same old left end born opened far before =
     let ten : take 10 left ≡ take 10 old = take_same 10 end left old before.front far in
-    opened_same left old (born_same left old end far before.long before.front born ∙ sym born) (open_same left old opened ten (omega (arith, before.long, far)) ∙ sym opened) (epoch_same left old ten) before.groups
+    let both : is_born left ≡ is_born old = born_same left old end far before.long before.front born ∙ sym born in
+    (opened_same left old both (open_same left old opened ten (omega (arith, before.long, far)) ∙ sym opened) (epoch_same left old ten) before.groups, texts_same left old both before.groups)
 
 still_at : (old : List ℕ) (before m : Moment) → disk_of before Log ≡ settled old → IsStill before m → IsOpening old before.out m
 still_at old before m quiet is =
-    (ap (λ (x : Moment). x.out) is, inr (λ left leaves. ap opened_of (subst (λ (p : Pending). Leaves p left) (ap (λ (x : Moment). disk_of x Log) is ∙ quiet) leaves)))
+    (ap (λ (x : Moment). x.out) is, inr (λ left leaves. same_gives old left (subst (λ (p : Pending). Leaves p left) (ap (λ (x : Moment). disk_of x Log) is ∙ quiet) leaves)))
 
 -- while it is only read
 pub still_opening : {a b : History} (old : List ℕ) → disk_of a.now Log ≡ settled old → Since (IsStill a.now) a b → Since (IsOpening old a.now.out) a b
@@ -90,6 +98,14 @@ settle_opening {a} {b} {c} old files front same born read closed quiet ab settle
     since_join (still_opening old.log quiet ab)
     (since_weaker (settles (settled_calm old files a b front.gated file same quiet ab stands.front))
     (λ m one. settle_at old files a.now b.now m front.gated file same born (still_now ab) stands one))
+
+-- and all the while the log alone is touched
+pub settle_alone : {a b c : History} (old files : Five (List ℕ)) (front : Front) → files ≡ old → Some front ≡ reading_of Log old.log → front.is_broken ≡ false → disk_of a.now Log ≡ settled old.log
+    → Since (IsStill a.now) a b → (IsCalm b files front.gated → Since (OneFile b.now front.gated.file (IsAsBefore (of files front.gated.file) front.gated.end)) b c) → Since (IsLogAlone a.now) a c
+settle_alone {a} {b} {c} old files front same read closed quiet ab settles =
+    let file : front.gated.file ≡ Log = ap (λ (f : Front). f.gated.file) (reads_open old.log front (is_open old.log) read).1 in
+    let stands : IsGated files front.gated = subst (λ (f : Five (List ℕ)). IsGated f front.gated) (sym same) (reads_gated old front read closed) in
+    alone_on (alone_reading ab) (alone_writing front.gated.file file (settles (settled_calm old files a b front.gated file same quiet ab stands.front)))
 
 -- an opening behind reads
 pub opening_on : {a b c : History} (old files : Five (List ℕ)) → files ≡ old → disk_of a.now Log ≡ settled old.log → Since (IsStill a.now) a b

@@ -11,7 +11,7 @@ use Rattle.hs_host.proofs.Passing.{since_none, since_now}
 use Rattle.hs_top.specs.declared.reply.Reply.{Reply}
 use Rattle.hs_top.specs.declared.status.Status.{Status}
 use Rattle.hs_top.specs.declared.statement.Statement.{Statement}
-use Rattle.hs_top.specs.Crash.{Survives, IsSafe, IsSafeFromOpening, HasLog, IsOpening, AcknowledgesBehind, opened_after}
+use Rattle.hs_top.specs.Crash.{Survives, IsSafe, IsSafeFromOpening, HasLog, GivesSame, IsOpening, AcknowledgesBehind, opened_after}
 use Rattle.hs_top.specs.Database.{performed}
 use Rattle.hs_top.specs.Holding.{Holds, IsHeld}
 use Rattle.hs_top.specs.CommitText.{commit_text}
@@ -71,9 +71,17 @@ front_of_texts (item ∷ items) s (t ∷ front) rest is = elim (few_texts item s
       )
 ]
 
+nothing_before : (front rest : List (List ℕ)) → front ++ rest ≡ [] → front ≡ []
+nothing_before [] rest is = refl
+nothing_before (t ∷ front) rest is = absurd (cc)
+
+-- the texts of a born log
+pub born_texts : (log : List ℕ) → is_born log ≡ true → texts_at log ≡ (groups_of log).payloads
+born_texts log born = ap (λ (b : Bool). cond b (groups_of log).payloads []) born
+
 -- such a log gives what the first turns made
 pub survives : (old : List ℕ) (opened : Opened) (input before out log : List ℕ) → opened_of old ≡ Ok opened
-    → Holds (length (texts_at old)) (texts_at old ++ texts_from opened input) before out log → Survives opened input before out log
+    → Holds (length (texts_at old)) (texts_at old ++ texts_from opened input) before out log → Survives old opened input before out log
 survives old opened input before out log is held =
     let payloads = (groups_of log).payloads in
     let given = old_gives old opened is in
@@ -87,58 +95,74 @@ survives old opened input before out log is held =
     record {
       turns = made.0;
       reopens = grind (arith, held.born, held.opened, held.epoch, held.whole, replays);
+      texts = born_texts log held.born ∙ parts.1.0 ∙ ap (λ (ts : List (List ℕ)). texts_at old ++ ts) made.1;
       told = subst (AcknowledgesBehind before out) (let count : length payloads ≡ (opened_after made.0 opened input).database.commits = omega (arith, commits_of_texts payloads nothing_logged (opened_after made.0 opened input) replays) in count) held.told;
     }
 
 pub safe : (old : List ℕ) (opened : Opened) (input before : List ℕ) (m : Moment) → opened_of old ≡ Ok opened
-    → IsHeld (length (texts_at old)) (texts_at old ++ texts_from opened input) before m → IsSafe opened input before m
+    → IsHeld (length (texts_at old)) (texts_at old ++ texts_from opened input) before m → IsSafe old opened input before m
 safe old opened input before m is held log left = survives old opened input before m.out log is (held log left)
 
+-- a log whose texts are those of the old one gives what it gives
+pub held_same : (old : List ℕ) (opened : Opened) (before out log : List ℕ) → opened_of old ≡ Ok opened → Holds (length (texts_at old)) (texts_at old ++ []) before out log → GivesSame old log
+held_same old opened before out log is held =
+    let payloads = (groups_of log).payloads in
+    let parts = split_front payloads held.rest (texts_at old) [] held.texts held.enough in
+    let same : payloads ≡ texts_at old = parts.1.0 ∙ ap (λ (ts : List (List ℕ)). texts_at old ++ ts) (nothing_before parts.0 held.rest parts.1.1) ∙ append-nil (texts_at old) in
+    let replays : replayed nothing_logged payloads ≡ Ok opened = ap (λ (ts : List (List ℕ)). replayed nothing_logged ts) same ∙ old_gives old opened is in
+    let gives : opened_of log ≡ Ok opened = grind (arith, held.born, held.opened, held.epoch, held.whole, replays) in
+    (gives ∙ sym is, born_texts log held.born ∙ same)
+
 -- a log that gives what the old one gives, while nothing is told
-same_survives : (old : List ℕ) (opened : Opened) (input before out log : List ℕ) → opened_of old ≡ Ok opened → out ≡ before → opened_of log ≡ opened_of old → Survives opened input before out log
-unfolding steps
+pub same_survives : (old : List ℕ) (opened : Opened) (input before out log : List ℕ) → opened_of old ≡ Ok opened → out ≡ before → GivesSame old log → Survives old opened input before out log
+unfolding steps texts
 same_survives old opened input before out log is told same = record {
   turns = 0;
-  reopens = same ∙ is;
+  reopens = same.0 ∙ is;
+  texts = same.1 ∙ sym (append-nil (texts_at old));
   told = record { written = []; is = told ∙ sym (append-nil before); told = tells_nothing _ };
 }
 
 -- while a born log is opened
-opening_safe : (old : List ℕ) (opened : Opened) (input before : List ℕ) (m : Moment) → opened_of old ≡ Ok opened → is_born old ≡ true → IsOpening old before m → IsSafe opened input before m
+opening_safe : (old : List ℕ) (opened : Opened) (input before : List ℕ) (m : Moment) → opened_of old ≡ Ok opened → is_born old ≡ true → IsOpening old before m → IsSafe old opened input before m
 opening_safe old opened input before m is born (out, inl unborn) log leaves = absurd (let e : true ≡ false = sym born ∙ unborn in cc)
 opening_safe old opened input before m is born (out, inr same) log leaves = same_survives old opened input before m.out log is out (same log leaves)
 
+-- the same bytes give the same
+pub same_gives : (old log : List ℕ) → log ≡ old → GivesSame old log
+same_gives old log same = (ap opened_of same, ap texts_at same)
+
 -- and before that
-start_safe : (old : List ℕ) (opened : Opened) (input before : List ℕ) (m : Moment) → opened_of old ≡ Ok opened → disk_of m Log ≡ settled old → m.out ≡ before → IsSafe opened input before m
+start_safe : (old : List ℕ) (opened : Opened) (input before : List ℕ) (m : Moment) → opened_of old ≡ Ok opened → disk_of m Log ≡ settled old → m.out ≡ before → IsSafe old opened input before m
 start_safe old opened input before m is quiet out log leaves =
-    same_survives old opened input before m.out log is out (ap opened_of (subst (λ (p : Pending). Leaves p log) quiet leaves))
+    same_survives old opened input before m.out log is out (same_gives old log (subst (λ (p : Pending). Leaves p log) quiet leaves))
 
 -- no moment passed
-pub not_opened : (old : List ℕ) (opened : Opened) (input before : List ℕ) (h : History) → IsSafeFromOpening old opened input before h h
-not_opened old opened input before h = record { opening = h; begins = since_none _ h; first = inl refl; each = since_none _ h }
+pub not_opened : (old : List ℕ) (opened : Opened) (input before : List ℕ) (status : Status) (h : History) → has_opened status ≡ false → IsSafeFromOpening old opened input before status h h
+not_opened old opened input before status h ended = record { opening = h; begins = since_none _ h; first = inl (ended, refl); each = since_none _ h }
 
 -- what is safe when it is open, and at each moment after, is so now
-pub safe_now : {opened : Opened} {input before : List ℕ} {a b : History} → IsSafe opened input before a.now → Since (IsSafe opened input before) a b → IsSafe opened input before b.now
-safe_now {opened} {input} {before} first each = elim (since_now each) [ inl is ↦ subst (IsSafe opened input before) (sym is) first | inr safe ↦ safe ]
+pub safe_now : {old : List ℕ} {opened : Opened} {input before : List ℕ} {a b : History} → IsSafe old opened input before a.now → Since (IsSafe old opened input before) a b → IsSafe old opened input before b.now
+safe_now {old} {opened} {input} {before} first each = elim (since_now each) [ inl is ↦ subst (IsSafe old opened input before) (sym is) first | inr safe ↦ safe ]
 
 -- over a born log the present moment is safe in any case
-pub born_safe : (old : List ℕ) (opened : Opened) (input before : List ℕ) (start now : History) → opened_of old ≡ Ok opened → is_born old ≡ true → disk_of start.now Log ≡ settled old → start.now.out ≡ before
-    → IsSafeFromOpening old opened input before start now → IsSafe opened input before now.now
-born_safe old opened input before start now is born quiet out s =
+pub born_safe : (old : List ℕ) (opened : Opened) (input before : List ℕ) (status : Status) (start now : History) → opened_of old ≡ Ok opened → is_born old ≡ true → disk_of start.now Log ≡ settled old → start.now.out ≡ before
+    → IsSafeFromOpening old opened input before status start now → IsSafe old opened input before now.now
+born_safe old opened input before status start now is born quiet out s =
     safe_now (elim (since_now s.begins) [
-      | inl same ↦ subst (IsSafe opened input before) (sym same) (start_safe old opened input before start.now is quiet out)
+      | inl same ↦ subst (IsSafe old opened input before) (sym same) (start_safe old opened input before start.now is quiet out)
       | inr opening ↦ opening_safe old opened input before s.opening.now is born opening
     ]) s.each
 
 -- so it is at each status that comes after the opening
 pub kept_safe : (old : List ℕ) (opened : Opened) (input before : List ℕ) (start now : History) (status : Status) → opened_of old ≡ Ok opened → disk_of start.now Log ≡ settled old → start.now.out ≡ before
-    → IsSafeFromOpening old opened input before start now → (has_opened status ≡ true → IsSafe opened input before now.now) → HasLog old status → IsSafe opened input before now.now
+    → IsSafeFromOpening old opened input before status start now → (has_opened status ≡ true → IsSafe old opened input before now.now) → HasLog old status → IsSafe old opened input before now.now
 kept_safe old opened input before start now status is quiet out s later (inl has) = later has
-kept_safe old opened input before start now status is quiet out s later (inr born) = born_safe old opened input before start now is born quiet out s
+kept_safe old opened input before start now status is quiet out s later (inr born) = born_safe old opened input before status start now is born quiet out s
 
 -- and the log as a read gives it is among what a crash may leave
-pub left_now : (opened : Opened) (input before : List ℕ) (m : Moment) (written log : List ℕ) → IsSafe opened input before m → m.out ≡ written → Leaves (disk_of m Log) log → Survives opened input before written log
-left_now opened input before m written log safe out leaves = subst (λ (o : List ℕ). Survives opened input before o log) out (safe log leaves)
+pub left_now : (old : List ℕ) (opened : Opened) (input before : List ℕ) (m : Moment) (written log : List ℕ) → IsSafe old opened input before m → m.out ≡ written → Leaves (disk_of m Log) log → Survives old opened input before written log
+left_now old opened input before m written log safe out leaves = subst (λ (o : List ℕ). Survives old opened input before o log) out (safe log leaves)
 
 -- what was opened has as many commits as its log has texts
 pub opened_counts : (old : List ℕ) (opened : Opened) → opened_of old ≡ Ok opened → opened.database.commits ≡ length (texts_at old)

@@ -4,6 +4,7 @@ ghost use Rattle.hs_host.specs.Host.{Rose};
 ghost use Rattle.hs_gate.specs.Crash.{IsCalm};
 ghost use Rattle.hs_host.specs.Files.{IsOpen, IsHonest};
 ghost use Rattle.hs_host.specs.Moments.{Since, IsPrinted};
+ghost use Rattle.hs_top.specs.Crash.{IsLogAlone};
 ghost use Rattle.hs_top.specs.Holding.{IsHeld, IsLogging, IsStep, IsAcknowledging};
 ghost use Rattle.hs_top.specs.Acknowledged.{IsNamed};
 ghost use Rattle.hs_top.specs.declared.statement.Statement.{Statement};
@@ -50,6 +51,7 @@ pub fn answer<H: Host>(
     ensures done { H.tells → OnOk result (H.written host.new ++ output.new ≡ H.written host.old ++ (output.old ++ (step_of item (state_of work.old)).lines)) }
     ensures front { H.tells → WritesPrefix (H.written host.old) (H.written host.new) (output.old ++ (step_of item (state_of work.old)).lines) }
     ensures moments { H.tells → IsHonest (H.standing host.old) → IsCalm (H.history host.old) (H.files host.old) work.old.log.gated → IsNamed item → (least : ℕ) (before : List ℕ) (rest : List (List ℕ)) → IsAcknowledging least before (H.files host.old) (H.written host.old) output.old work.old.database.commits → Since (IsHeld least (texts_in (H.files host.old) ++ ((step_of item (state_of work.old)).texts ++ rest)) before) (H.history host.old) (H.history host.new) }
+    ensures alone { H.tells → IsHonest (H.standing host.old) → IsCalm (H.history host.old) (H.files host.old) work.old.log.gated → Since (IsLogAlone (H.history host.old).now) (H.history host.old) (H.history host.new) }
     ensures telling { H.tells → IsHonest (H.standing host.old) → IsNamed item → (least : ℕ) (before : List ℕ) → IsAcknowledging least before (H.files host.old) (H.written host.old) output.old work.old.database.commits → OnOk result (IsAcknowledging least before (H.files host.new) (H.written host.new) output.new work.new.database.commits) }
     ensures calm { H.tells → IsHonest (H.standing host.old) → IsCalm (H.history host.old) (H.files host.old) work.old.log.gated → OnOk result (IsCalm (H.history host.new) (H.files host.new) work.new.log.gated) }
     ensures output_fault { IsErrOf result Status.OutputFault → Rose (H.output_faults host.old) (H.output_faults host.new) }

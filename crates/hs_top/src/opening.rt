@@ -1,12 +1,12 @@
 // What a run begins with: the database that its log gives.
-ghost use Rattle.std.specs.Prelude.{◌≡◌, ◌⊎◌, ℕ, ◌+◌, ◌*◌, ◌^◌, ◌<◌, ◌≤◌, List, [], true, false, None, Some, Ok, Err, IfOk, IfSome, OnOk, IfErr, IsErrOf, if◌then◌else◌};
+ghost use Rattle.std.specs.Prelude.{◌≡◌, ◌⊎◌, ℕ, ◌+◌, ◌*◌, ◌^◌, ◌<◌, ◌≤◌, List, [], true, false, None, Some, Ok, Err, IfOk, IfSome, OnOk, OnErr, IfErr, IsErrOf, if◌then◌else◌};
 ghost use Rattle.hs_host.specs.Host.{Rose};
 ghost use Rattle.hs_gate.specs.Crash.{IsAny, IsCalm};
 ghost use Rattle.hs_host.specs.Disk.{settled};
 ghost use Rattle.hs_host.specs.Files.{of, IsOpen, IsHonest};
 ghost use Rattle.hs_host.specs.Moments.{Since, OneFile, IsStill, disk_of};
-ghost use Rattle.hs_top.specs.Crash.{IsOpening};
-ghost use Rattle.hs_gate.specs.Gated.{IsFront, IsPlace, TakesPart};
+ghost use Rattle.hs_top.specs.Crash.{IsOpening, IsLogAlone};
+ghost use Rattle.hs_gate.specs.Gated.{IsFront, IsPlace, TakesPart, IsUnbornOrCreated};
 ghost use Rattle.hs_gate.specs.Groups.{is_born};
 ghost use Rattle.hs_top.specs.CommitText.{IsChange};
 ghost use Rattle.hs_top.specs.Opening.{nothing_logged, redone, replayed, opened_of, texts_at, opened_by, IsDamageOf};
@@ -40,9 +40,11 @@ pub fn open_log<H: Host>(alloc: Global, host: &mut H) -> Result<Opening, Status>
     ensures logged { H.tells → IsHonest (H.standing host.old) → IfOk result (λ o. IsLog (H.files host.new) o.log) }
     ensures texts { H.tells → IsHonest (H.standing host.old) → OnOk result (texts_in (H.files host.new) ≡ texts_at (H.files host.old).log) }
     ensures others { H.tells → IsHonest (H.standing host.old) → OnlyLog (H.files host.old) (H.files host.new) }
+    ensures begun { H.tells → IsHonest (H.standing host.old) → is_born (H.files host.old).log ≡ false → OnErr result (IsUnbornOrCreated (H.files host.new).log) }
     ensures sound { IfOk result (λ o. IsSound o.log) }
     ensures room { IfOk result (λ o. HasRoom o.database.commits o.log) }
     ensures moments { H.tells → IsHonest (H.standing host.old) → disk_of (H.history host.old).now FileKind.Log ≡ settled (H.files host.old).log → Since (IsOpening (H.files host.old).log (H.history host.old).now.out) (H.history host.old) (H.history host.new) }
+    ensures alone { H.tells → IsHonest (H.standing host.old) → disk_of (H.history host.old).now FileKind.Log ≡ settled (H.files host.old).log → Since (IsLogAlone (H.history host.old).now) (H.history host.old) (H.history host.new) }
     ensures calm { H.tells → IsHonest (H.standing host.old) → IfOk result (λ o. IsCalm (H.history host.new) (H.files host.new) o.log.gated) }
     ensures disk_fault { IsErrOf result Status.DiskFault → Rose (H.disk_faults host.old) (H.disk_faults host.new) }
     ensures only { IsErrOf result Status.Done ⊎ (IsErrOf result Status.Usage ⊎ (IsErrOf result Status.InputFault ⊎ (IsErrOf result Status.OutputFault ⊎ IsErrOf result Status.InputTooLong))) → ⊥ }
@@ -71,6 +73,7 @@ fn new_log<H: Host>(alloc: Global, host: &mut H) -> Result<Opening, Status>
     ensures sound { IfOk result (λ o. IsSound o.log) }
     ensures room { IfOk result (λ o. HasRoom o.database.commits o.log) }
     ensures whole { IfErr result (λ status. is_damaged status ≡ false) }
+    ensures begun { H.tells → IsHonest (H.standing host.old) → is_born (H.files host.old).log ≡ false → OnErr result (IsUnbornOrCreated (H.files host.new).log) }
     ensures moments { H.tells → IsHonest (H.standing host.old) → Since (OneFile (H.history host.old).now FileKind.Log IsAny) (H.history host.old) (H.history host.new) }
     ensures calm { H.tells → IsHonest (H.standing host.old) → IfOk result (λ o. IsCalm (H.history host.new) (H.files host.new) o.log.gated) }
     ensures disk_fault { IsErrOf result Status.DiskFault → Rose (H.disk_faults host.old) (H.disk_faults host.new) }
@@ -103,6 +106,7 @@ fn read_log<H: Host>(alloc: Global, host: &mut H) -> Result<Opening, Status>
     ensures sound { IfOk result (λ o. IsSound o.log) }
     ensures room { IfOk result (λ o. HasRoom o.database.commits o.log) }
     ensures moments { H.tells → IsHonest (H.standing host.old) → disk_of (H.history host.old).now FileKind.Log ≡ settled (H.files host.old).log → Since (IsOpening (H.files host.old).log (H.history host.old).now.out) (H.history host.old) (H.history host.new) }
+    ensures alone { H.tells → IsHonest (H.standing host.old) → disk_of (H.history host.old).now FileKind.Log ≡ settled (H.files host.old).log → Since (IsLogAlone (H.history host.old).now) (H.history host.old) (H.history host.new) }
     ensures calm { H.tells → IsHonest (H.standing host.old) → IfOk result (λ o. IsCalm (H.history host.new) (H.files host.new) o.log.gated) }
     ensures disk_fault { IsErrOf result Status.DiskFault → Rose (H.disk_faults host.old) (H.disk_faults host.new) }
     ensures only { IsErrOf result Status.Done ⊎ (IsErrOf result Status.Usage ⊎ (IsErrOf result Status.InputFault ⊎ (IsErrOf result Status.OutputFault ⊎ IsErrOf result Status.InputTooLong))) → ⊥ }

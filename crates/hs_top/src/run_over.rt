@@ -2,12 +2,13 @@
 ghost use Rattle.std.specs.Prelude.{◌≡◌, ◌⊎◌, ◌↔◌, ℕ, ◌+◌, ◌^◌, ◌<◌, ◌≤◌, List, ◌++◌, true, false, None, Some, Ok, Err, length, OnOk, IfErr, IsErrOf, MatchResult};
 ghost use Rattle.hs_host.specs.Host.{Rose};
 ghost use Rattle.hs_gate.specs.Crash.{IsCalm};
+ghost use Rattle.hs_gate.specs.Groups.{is_born};
 ghost use Rattle.hs_host.specs.Disk.{settled};
 ghost use Rattle.hs_host.specs.Files.{IsUnnamed, IsOpen, IsForeign, IsHonest};
 ghost use Rattle.hs_host.specs.Moments.{Since, disk_of};
 ghost use Rattle.hs_entries.specs.Items.{items};
 ghost use Rattle.hs_top.specs.Command.{database_of};
-ghost use Rattle.hs_top.specs.Crash.{IsSafe, IsSafeFromOpening, HasLog, Survives};
+ghost use Rattle.hs_top.specs.Crash.{IsSafe, IsSafeFromOpening, IsUnbornOrSurvives, IsLogAlone, HasLog, Survives};
 ghost use Rattle.hs_top.specs.Holding.{IsHeld};
 ghost use Rattle.hs_top.specs.Machine.{WritesPrefix, transcript, transcript_within, machine, texts_of};
 ghost use Rattle.hs_top.specs.Opening.{Opened, opened_of, opened_by, begun_with, texts_at, texts_from, ended_with, shown, IsWholeLog, IsDamageOf};
@@ -63,9 +64,11 @@ pub fn run<H: Host>(alloc: Global, words: &Words, host: &mut H) -> Status
     ensures others { H.tells → IsHonest (H.standing host.old) → OnlyLog (H.files host.old) (H.files host.new) }
 
     // What a crash leaves, at each moment of the run.
-    ensures crash { H.tells → IsHonest (H.standing host.old) → disk_of (H.history host.old).now FileKind.Log ≡ settled (H.files host.old).log → (opened : Opened) → opened_of (H.files host.old).log ≡ Ok opened → IsSafeFromOpening (H.files host.old).log opened (H.unread host.old) (H.written host.old) (H.history host.old) (H.history host.new) }
-    ensures safe { H.tells → IsHonest (H.standing host.old) → disk_of (H.history host.old).now FileKind.Log ≡ settled (H.files host.old).log → (opened : Opened) → opened_of (H.files host.old).log ≡ Ok opened → HasLog (H.files host.old).log result → IsSafe opened (H.unread host.old) (H.written host.old) (H.history host.new).now }
-    ensures left { H.tells → IsHonest (H.standing host.old) → disk_of (H.history host.old).now FileKind.Log ≡ settled (H.files host.old).log → (opened : Opened) → opened_of (H.files host.old).log ≡ Ok opened → HasLog (H.files host.old).log result → Survives opened (H.unread host.old) (H.written host.old) (H.written host.new) (H.files host.new).log }
+    ensures crash { H.tells → IsHonest (H.standing host.old) → disk_of (H.history host.old).now FileKind.Log ≡ settled (H.files host.old).log → (opened : Opened) → opened_of (H.files host.old).log ≡ Ok opened → IsSafeFromOpening (H.files host.old).log opened (H.unread host.old) (H.written host.old) result (H.history host.old) (H.history host.new) }
+    ensures safe { H.tells → IsHonest (H.standing host.old) → disk_of (H.history host.old).now FileKind.Log ≡ settled (H.files host.old).log → (opened : Opened) → opened_of (H.files host.old).log ≡ Ok opened → HasLog (H.files host.old).log result → IsSafe (H.files host.old).log opened (H.unread host.old) (H.written host.old) (H.history host.new).now }
+    ensures left { H.tells → IsHonest (H.standing host.old) → disk_of (H.history host.old).now FileKind.Log ≡ settled (H.files host.old).log → (opened : Opened) → opened_of (H.files host.old).log ≡ Ok opened → HasLog (H.files host.old).log result → Survives (H.files host.old).log opened (H.unread host.old) (H.written host.old) (H.written host.new) (H.files host.new).log }
+    ensures begun { H.tells → IsHonest (H.standing host.old) → is_born (H.files host.old).log ≡ false → IsUnbornOrSurvives (H.files host.old).log (H.unread host.old) (H.written host.old) (H.written host.new) (H.files host.new).log }
+    ensures alone { H.tells → IsHonest (H.standing host.old) → disk_of (H.history host.old).now FileKind.Log ≡ settled (H.files host.old).log → Since (IsLogAlone (H.history host.old).now) (H.history host.old) (H.history host.new) }
 
     // Faults of the devices.
     ensures input_fault { result ≡ Status.InputFault → Rose (H.input_faults host.old) (H.input_faults host.new) }
@@ -132,8 +135,10 @@ fn serve<H: Host>(alloc: Global, host: &mut H) -> Result<(), Status>
     ensures opened { H.tells → IsHonest (H.standing host.old) → (number : ℕ) → opened_of (H.files host.old).log ≡ Err number → OnOk result ⊥ }
     ensures done { H.tells → IsHonest (H.standing host.old) → (opened : Opened) → opened_of (H.files host.old).log ≡ Ok opened → OnOk result (H.written host.new ≡ H.written host.old ++ transcript (begun_with opened) (H.unread host.old)) }
     ensures log { H.tells → IsHonest (H.standing host.old) → (opened : Opened) → opened_of (H.files host.old).log ≡ Ok opened → OnOk result (IsWholeLog (H.files host.new).log (texts_at (H.files host.old).log ++ texts_from opened (H.unread host.old))) }
-    ensures crash { H.tells → IsHonest (H.standing host.old) → disk_of (H.history host.old).now FileKind.Log ≡ settled (H.files host.old).log → (opened : Opened) → opened_of (H.files host.old).log ≡ Ok opened → IsSafeFromOpening (H.files host.old).log opened (H.unread host.old) (H.written host.old) (H.history host.old) (H.history host.new) }
-    ensures safe { H.tells → IsHonest (H.standing host.old) → disk_of (H.history host.old).now FileKind.Log ≡ settled (H.files host.old).log → (opened : Opened) → opened_of (H.files host.old).log ≡ Ok opened → MatchResult result (λ _. IsSafe opened (H.unread host.old) (H.written host.old) (H.history host.new).now) (λ status. has_opened status ≡ true → IsSafe opened (H.unread host.old) (H.written host.old) (H.history host.new).now) }
+    ensures crash { H.tells → IsHonest (H.standing host.old) → disk_of (H.history host.old).now FileKind.Log ≡ settled (H.files host.old).log → (opened : Opened) → opened_of (H.files host.old).log ≡ Ok opened → MatchResult result (λ _. IsSafeFromOpening (H.files host.old).log opened (H.unread host.old) (H.written host.old) Status.Done (H.history host.old) (H.history host.new)) (λ status. IsSafeFromOpening (H.files host.old).log opened (H.unread host.old) (H.written host.old) status (H.history host.old) (H.history host.new)) }
+    ensures begun { H.tells → IsHonest (H.standing host.old) → is_born (H.files host.old).log ≡ false → IsUnbornOrSurvives (H.files host.old).log (H.unread host.old) (H.written host.old) (H.written host.new) (H.files host.new).log }
+    ensures alone { H.tells → IsHonest (H.standing host.old) → disk_of (H.history host.old).now FileKind.Log ≡ settled (H.files host.old).log → Since (IsLogAlone (H.history host.old).now) (H.history host.old) (H.history host.new) }
+    ensures safe { H.tells → IsHonest (H.standing host.old) → disk_of (H.history host.old).now FileKind.Log ≡ settled (H.files host.old).log → (opened : Opened) → opened_of (H.files host.old).log ≡ Ok opened → MatchResult result (λ _. IsSafe (H.files host.old).log opened (H.unread host.old) (H.written host.old) (H.history host.new).now) (λ status. has_opened status ≡ true → IsSafe (H.files host.old).log opened (H.unread host.old) (H.written host.old) (H.history host.new).now) }
     ensures before_too_long { H.tells → IsHonest (H.standing host.old) → (opened : Opened) → opened_of (H.files host.old).log ≡ Ok opened → IsErrOf result Status.InputTooLong → H.written host.new ≡ H.written host.old ++ transcript_within (2 ^ 30) (begun_with opened) (H.unread host.old) }
     ensures damaged { H.tells → IsHonest (H.standing host.old) → (damage : Damage) → IsErrOf result (Status.Damaged damage) → IsDamageOf (opened_of (H.files host.old).log) damage }
     ensures undamaged { H.tells → IsHonest (H.standing host.old) → (number : ℕ) → opened_of (H.files host.old).log ≡ Err number → IfErr result (λ status. (status ≡ Status.Damaged (Damage.Log number)) ⊎ ((status ≡ Status.DiskFault) ⊎ (status ≡ Status.NoMemory))) }
@@ -172,6 +177,7 @@ fn answer_all<H: Host>(alloc: Global, opening: Opening, host: &mut H) -> Result<
     ensures before_too_long { H.tells → IsErrOf result Status.InputTooLong → H.written host.new ≡ H.written host.old ++ transcript_within (2 ^ 30) (begun_with (opened_by opening)) (H.unread host.old) }
     ensures log { H.tells → IsHonest (H.standing host.old) → OnOk result (IsWholeLog (H.files host.new).log (texts_in (H.files host.old) ++ texts_from (opened_by opening) (H.unread host.old))) }
     ensures moments { H.tells → IsHonest (H.standing host.old) → Since (IsHeld (length (texts_in (H.files host.old))) (texts_in (H.files host.old) ++ texts_from (opened_by opening) (H.unread host.old)) (H.written host.old)) (H.history host.old) (H.history host.new) }
+    ensures alone { H.tells → IsHonest (H.standing host.old) → Since (IsLogAlone (H.history host.old).now) (H.history host.old) (H.history host.new) }
     ensures whole { IfErr result (λ status. is_damaged status ≡ false) }
     ensures others { H.tells → IsHonest (H.standing host.old) → OnlyLog (H.files host.old) (H.files host.new) }
     ensures done_within { H.tells → OnOk result (length (H.unread host.old) ≤ 2 ^ 30) }

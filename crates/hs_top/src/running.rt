@@ -4,6 +4,7 @@ ghost use Rattle.hs_host.specs.Host.{Rose};
 ghost use Rattle.hs_gate.specs.Crash.{IsCalm};
 ghost use Rattle.hs_host.specs.Files.{IsOpen, IsHonest};
 ghost use Rattle.hs_host.specs.Moments.{Since, IsStill, IsPrinted};
+ghost use Rattle.hs_top.specs.Crash.{IsLogAlone};
 ghost use Rattle.hs_top.specs.Holding.{IsHeld, IsAcknowledging};
 ghost use Rattle.hs_entries.specs.Left.{TakesFirst, TakesWhole, RunsOut, IsBeyond, KeepsRoom};
 ghost use Rattle.hs_entries.specs.Reader.{ahead, kept, left, left_items, left_whole, room};
@@ -47,6 +48,7 @@ impl Running {
         ensures logged { H.tells → IsHonest (H.standing host.old) → OnOk result (IsLog (H.files host.new) self.new.work.log) }
         ensures others { H.tells → IsHonest (H.standing host.old) → OnlyLog (H.files host.old) (H.files host.new) }
         ensures moments { H.tells → IsHonest (H.standing host.old) → IsCalm (H.history host.old) (H.files host.old) self.old.work.log.gated → (least : ℕ) (before : List ℕ) → IsAcknowledging least before (H.files host.old) (H.written host.old) self.old.output self.old.work.database.commits → Since (IsHeld least (texts_in (H.files host.old) ++ texts_of (machine_of self.old (H.unread host.old))) before) (H.history host.old) (H.history host.new) }
+        ensures alone { H.tells → IsHonest (H.standing host.old) → IsCalm (H.history host.old) (H.files host.old) self.old.work.log.gated → Since (IsLogAlone (H.history host.old).now) (H.history host.old) (H.history host.new) }
         ensures calm { H.tells → IsHonest (H.standing host.old) → IsCalm (H.history host.old) (H.files host.old) self.old.work.log.gated → OnOk result (IsCalm (H.history host.new) (H.files host.new) self.new.work.log.gated) }
         ensures telling { H.tells → IsHonest (H.standing host.old) → (least : ℕ) (before : List ℕ) → IsAcknowledging least before (H.files host.old) (H.written host.old) self.old.output self.old.work.database.commits → OnOk result (IsAcknowledging least before (H.files host.new) (H.written host.new) self.new.output self.new.work.database.commits) }
         ensures count { H.tells → OnOk result (KeepsRoom (left self.old.reader (H.unread host.old)) (left self.new.reader (H.unread host.new))) }

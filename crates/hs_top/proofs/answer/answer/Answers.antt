@@ -7,6 +7,7 @@ use Rattle.hs_top.specs.Holding.{IsHeld, IsGathered, IsAcknowledging}
 use Rattle.hs_top.specs.Machine.{step_of}
 use Rattle.hs_top.specs.Running.{state_of, texts_in}
 use Rattle.hs_top.specs.Acknowledged.{IsNamed}
+use Rattle.hs_top.proofs.Alone.{alone_stepping, alone_printing, alone_on}
 use Rattle.hs_top.proofs.Holding.{calm_told, gathered_step, held_step, held_telling, telling_step, telling_handed}
 use Rattle.hs_top.proofs.Acknowledged.{one_text}
 use Rattle.hs_top.proofs.answer.answer.Goals as goal
@@ -71,3 +72,14 @@ returns-clause-telling g c = λ told honest named least before t.
     telling_handed least before (g.H.Host.files c.perform.new.host) (g.H.Host.files c.flush_when_large.new.host) (g.H.Host.written c.perform.new.host) (g.H.Host.written c.flush_when_large.new.host) c.perform.new.output c.flush_when_large.new.output c.perform.new.work.database.commits
     c.flush_when_large.ensures.files (c.in_ok-flush_when_large.ensures.done told) (c.flush_when_large.ensures.front told).grown
     (left g (goal.at.returns-clause-telling g c).After-flush_when_large told honest named least before t)
+
+pub returns-in_err-perform-clause-alone : goal.returns-in_err-perform-clause-alone
+returns-in_err-perform-clause-alone g c = λ told honest calm. alone_stepping (c.perform.ensures.moments told honest calm)
+
+pub returns-in_err-flush_when_large-clause-alone : goal.returns-in_err-flush_when_large-clause-alone
+returns-in_err-flush_when_large-clause-alone g c = λ told honest calm.
+    alone_on (alone_stepping (c.perform.ensures.moments told honest calm)) (alone_printing (c.flush_when_large.ensures.moments told))
+
+pub returns-clause-alone : goal.returns-clause-alone
+returns-clause-alone g c = λ told honest calm.
+    alone_on (alone_stepping (c.perform.ensures.moments told honest calm)) (alone_printing (c.flush_when_large.ensures.moments told))

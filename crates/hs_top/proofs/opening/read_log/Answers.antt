@@ -4,7 +4,8 @@ use Rattle.hs_gate.proofs.Moments.{still_on}
 use Rattle.hs_top.specs.declared.status.Status.TheVariants.{Damaged}
 use Rattle.hs_top.specs.Opening.{replayed, nothing_logged, IsDamageOf}
 use Rattle.hs_top.specs.Running.{texts_in}
-use Rattle.hs_top.proofs.Openings.{still_opening, settle_opening}
+use Rattle.hs_top.proofs.Alone.{alone_reading}
+use Rattle.hs_top.proofs.Openings.{still_opening, settle_opening, settle_alone}
 use Rattle.hs_top.proofs.Replayed.{damage_is}
 use Rattle.hs_top.proofs.opening.read_log.Goals as goal
 
@@ -39,6 +40,34 @@ returns-clause-moments g c = λ told honest quiet.
     let after : IsHonest (g.H.Host.standing c.front.new.host) = subst IsHonest (sym c.in_ok-front.ensures.standing) honest in
     let behind : IsHonest (g.H.Host.standing c.replay.new.host) = subst IsHonest (sym c.in-Ok.ensures.standing) after in
     settle_opening (g.H.Host.files c.args.host.now) (g.H.Host.files c.replay.new.host) c.in-Some.front (c.in-Ok.ensures.files told after ∙ c.in_ok-front.ensures.files told honest) (c.requires.born told honest)
+    (sym c.in-Some.is ∙ c.in_ok-front.ensures.reading told honest) c.if-front.false quiet
+    (still_on (c.in_ok-front.ensures.moments told honest) (c.in-Ok.ensures.moments told after))
+    (c.settle.ensures.moments told behind)
+
+pub returns-in-Err-clause-alone : goal.returns-in-Err-clause-alone
+returns-in-Err-clause-alone g c = λ told honest quiet.
+    let after : IsHonest (g.H.Host.standing c.front.new.host) = subst IsHonest (sym c.in_ok-front.ensures.standing) honest in
+    alone_reading (still_on (c.in_ok-front.ensures.moments told honest) (c.in-Err.ensures.moments told after))
+
+pub returns-then-front-clause-alone : goal.returns-then-front-clause-alone
+returns-then-front-clause-alone g c = λ told honest quiet.
+    let after : IsHonest (g.H.Host.standing c.front.new.host) = subst IsHonest (sym c.in_ok-front.ensures.standing) honest in
+    alone_reading (still_on (c.in_ok-front.ensures.moments told honest) (c.in-Ok.ensures.moments told after))
+
+pub returns-in_err-settle-clause-alone : goal.returns-in_err-settle-clause-alone
+returns-in_err-settle-clause-alone g c = λ told honest quiet.
+    let after : IsHonest (g.H.Host.standing c.front.new.host) = subst IsHonest (sym c.in_ok-front.ensures.standing) honest in
+    let behind : IsHonest (g.H.Host.standing c.replay.new.host) = subst IsHonest (sym c.in-Ok.ensures.standing) after in
+    settle_alone (g.H.Host.files c.args.host.now) (g.H.Host.files c.replay.new.host) c.in-Some.front (c.in-Ok.ensures.files told after ∙ c.in_ok-front.ensures.files told honest)
+    (sym c.in-Some.is ∙ c.in_ok-front.ensures.reading told honest) c.if-front.false quiet
+    (still_on (c.in_ok-front.ensures.moments told honest) (c.in-Ok.ensures.moments told after))
+    (c.settle.ensures.moments told behind)
+
+pub returns-clause-alone : goal.returns-clause-alone
+returns-clause-alone g c = λ told honest quiet.
+    let after : IsHonest (g.H.Host.standing c.front.new.host) = subst IsHonest (sym c.in_ok-front.ensures.standing) honest in
+    let behind : IsHonest (g.H.Host.standing c.replay.new.host) = subst IsHonest (sym c.in-Ok.ensures.standing) after in
+    settle_alone (g.H.Host.files c.args.host.now) (g.H.Host.files c.replay.new.host) c.in-Some.front (c.in-Ok.ensures.files told after ∙ c.in_ok-front.ensures.files told honest)
     (sym c.in-Some.is ∙ c.in_ok-front.ensures.reading told honest) c.if-front.false quiet
     (still_on (c.in_ok-front.ensures.moments told honest) (c.in-Ok.ensures.moments told after))
     (c.settle.ensures.moments told behind)

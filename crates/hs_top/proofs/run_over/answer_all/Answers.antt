@@ -10,7 +10,9 @@ use Rattle.hs_host.specs.declared.file_kind.FileKind.TheVariants.{Log}
 use Rattle.hs_top.specs.Running.{machine_of, state_of, texts_in, IsTooLong}
 use Rattle.hs_host.specs.Moments.{Since}
 use Rattle.hs_host.proofs.Passing.{since_none, since_weaker, since_join}
+use Rattle.hs_top.specs.Crash.{IsLogAlone}
 use Rattle.hs_top.specs.Holding.{IsHeld, IsGathered}
+use Rattle.hs_top.proofs.Alone.{alone_printing, alone_on}
 use Rattle.hs_top.proofs.Holding.{first_gathered, last_gathered, held_telling}
 use Rattle.hs_top.proofs.Prefixes.{nothing_yet, front_after}
 use Rattle.hs_top.proofs.Logged.{whole_log}
@@ -64,6 +66,7 @@ loop-running-init g c =
         gathered = first_gathered written c.push_opened.new.self c.args.opening.database.commits c.args.opening.database.commits (first_line g at);
       };
       moments = λ told honest. since_none _ _;
+      alone = λ told honest. since_none _ _;
       others = λ told honest. refl;
       grown = λ told. omega arith;
       count = λ told. omega (arith, c.new.ensures.room, ap length (ap (λ (l : List ℕ). l ++ unread) c.new.ensures.ahead));
@@ -140,6 +143,30 @@ ended_moments g c told honest =
     (λ m telling. subst (λ (ts : List (List ℕ)). IsHeld least ts before m) texts
     (held_telling files (g.H.Host.history c.turn.new.host) work.log ok.sane.work.sound (ok.logged told still) (ok.calm told still (i.calm told honest)) least before work.database.commits t.enough t.counted c.push_closed.new.self [] m all telling)))
 
+-- what is touched until then
+turned_alone : (g : _) (c : After-turn g) → g.H.Source.tells → IsHonest (g.H.Host.standing c.args.host.now)
+    → Since (IsLogAlone (g.H.Host.history c.args.host.now).now) (g.H.Host.history c.args.host.now) (g.H.Host.history c.turn.new.host)
+turned_alone g c told honest =
+    let i = c.loop-running.invariant in
+    let still : IsHonest (g.H.Host.standing c.loop-running.host) = subst IsHonest (sym i.standing) honest in
+    alone_on (i.alone told honest) (c.turn.ensures.alone told still (i.calm told honest))
+
+ended_alone : (g : _) (c : After-flush g) → g.H.Source.tells → IsHonest (g.H.Host.standing c.args.host.now)
+    → Since (IsLogAlone (g.H.Host.history c.args.host.now).now) (g.H.Host.history c.args.host.now) (g.H.Host.history c.flush.new.host)
+ended_alone g c told honest = alone_on (turned_alone g (goal.at.After-flush g c).After-turn told honest) (alone_printing (c.flush.ensures.moments told))
+
+pub returns-in_err-turn-clause-alone : goal.returns-in_err-turn-clause-alone
+returns-in_err-turn-clause-alone g c = turned_alone g (goal.at.returns-in_err-turn-clause-alone g c).After-turn
+
+pub returns-in_err-push_closed-clause-alone : goal.returns-in_err-push_closed-clause-alone
+returns-in_err-push_closed-clause-alone g c = turned_alone g (goal.at.returns-in_err-push_closed-clause-alone g c).After-turn
+
+pub returns-in_err-flush-clause-alone : goal.returns-in_err-flush-clause-alone
+returns-in_err-flush-clause-alone g c = ended_alone g (goal.at.returns-in_err-flush-clause-alone g c).After-flush
+
+pub returns-clause-alone : goal.returns-clause-alone
+returns-clause-alone g c = ended_alone g (goal.at.returns-clause-alone g c).After-flush
+
 pub returns-in_err-turn-clause-moments : goal.returns-in_err-turn-clause-moments
 returns-in_err-turn-clause-moments g c = turned g (goal.at.returns-in_err-turn-clause-moments g c).After-turn
 
@@ -166,6 +193,7 @@ loop-running-preserved g c =
       calm = λ told honest. ok.calm told (still honest) (i.calm told honest);
       telling = λ told honest. ok.telling told (still honest) _ _ (i.telling told honest);
       moments = turned g (goal.at.loop-running-preserved g c).After-turn;
+      alone = turned_alone g (goal.at.loop-running-preserved g c).After-turn;
       others = λ told honest. c.turn.ensures.others told (still honest) ∙ ap (λ (f : Five (List ℕ)). with_ f Log (g.H.Host.files c.turn.new.host).log) (i.others told honest);
       grown = λ told. omega (arith, i.grown told, (c.turn.ensures.front told).grown);
       count = λ told. omega (arith, i.count told, ok.count told);

@@ -2,6 +2,7 @@ use Rattle.std.proofs.Common.{◌≡◌, ◌+◌, ◌^◌, ◌≤◌, ◌++◌, 
 use Rattle.hs_host.specs.Files.{IsHonest}
 use Rattle.hs_host.specs.Moments.{Since}
 use Rattle.hs_gate.specs.Crash.{IsCalm}
+use Rattle.hs_top.specs.Crash.{IsLogAlone}
 use Rattle.hs_top.specs.Holding.{IsHeld, IsAcknowledging}
 use Rattle.hs_entries.specs.Reader.{ahead, room}
 use Rattle.hs_top.specs.Machine.{transcript, transcript_within, rest_of, lines_of, texts_of}
@@ -24,6 +25,7 @@ invariant-loop-running g l =
       calm : g.H.Source.tells → IsHonest (g.H.Host.standing l.fn.host) → IsCalm (g.H.Host.history l.host) (files l.host) l.running.work.log.gated;
       telling : g.H.Source.tells → IsHonest (g.H.Host.standing l.fn.host) → IsAcknowledging (length (texts_in (files l.fn.host))) (written l.fn.host) (files l.host) (written l.host) l.running.output l.running.work.database.commits;
       moments : g.H.Source.tells → IsHonest (g.H.Host.standing l.fn.host) → Since (IsHeld (length (texts_in (files l.fn.host))) (texts_in (files l.fn.host) ++ texts_from (opened_by l.fn.opening) (unread l.fn.host)) (written l.fn.host)) (g.H.Host.history l.fn.host) (g.H.Host.history l.host);
+      alone : g.H.Source.tells → IsHonest (g.H.Host.standing l.fn.host) → Since (IsLogAlone (g.H.Host.history l.fn.host).now) (g.H.Host.history l.fn.host) (g.H.Host.history l.host);
       others : g.H.Source.tells → IsHonest (g.H.Host.standing l.fn.host) → OnlyLog (files l.fn.host) (files l.host);
       grown : g.H.Source.tells → length (written l.fn.host) ≤ length (written l.host);
       count : g.H.Source.tells → room l.running.reader + length (unread l.fn.host) ≡ 2 ^ 30 + length (ahead l.running.reader ++ unread l.host);

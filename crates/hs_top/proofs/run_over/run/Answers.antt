@@ -1,15 +1,18 @@
-use Rattle.std.proofs.Common.{◌≡◌, ◌⊎◌, ◌++◌, ℕ, Bool, List, IsTrue, inl, inr, Ok, Err, length, sym, ap, subst, ◌∙◌, arith}
+use Rattle.std.proofs.Common.{◌≡◌, ◌⊎◌, ◌++◌, ℕ, Bool, false, List, IsTrue, inl, inr, Ok, Err, length, refl, sym, ap, subst, ◌∙◌, arith}
 use Rattle.hs_host.specs.Files.{Five, IsHonest}
 use Rattle.hs_host.specs.declared.file_kind.FileKind.TheVariants as file
 use Rattle.hs_host.specs.Disk.{settled}
+use Rattle.hs_gate.specs.Groups.{is_born}
 use Rattle.hs_host.specs.Host.{Rose}
-use Rattle.hs_host.specs.Moments.{Moment, History, disk_of}
-use Rattle.hs_top.specs.Crash.{IsSafe, IsSafeFromOpening, Survives}
+use Rattle.hs_host.specs.Moments.{Moment, History, Since, disk_of}
+use Rattle.hs_host.proofs.Passing.{since_none}
+use Rattle.hs_top.specs.Crash.{IsSafe, IsSafeFromOpening, IsUnbornOrSurvives, IsLogAlone, Survives}
 use Rattle.hs_top.specs.declared.damage.Damage.{Damage}
 use Rattle.hs_top.specs.declared.damage.Damage.TheVariants.{Log}
-use Rattle.hs_top.specs.declared.status.Status.TheVariants.{Usage, NoMemory, InputTooLong, Damaged}
+use Rattle.hs_top.specs.declared.status.Status.{Status}
+use Rattle.hs_top.specs.declared.status.Status.TheVariants.{Done, Usage, NoMemory, InputTooLong, Damaged}
 use Rattle.hs_top.specs.Opening.{Opened, opened_of, texts_at, texts_from, IsWholeLog, IsDamageOf}
-use Rattle.hs_top.proofs.Endings.{ended_as, not_mounted_as}
+use Rattle.hs_top.proofs.Endings.{ended_as, not_mounted_as, not_both}
 use Rattle.hs_top.proofs.Reopened.{reopened}
 use Rattle.hs_top.proofs.Safe.{not_opened, kept_safe, left_now}
 use Rattle.hs_top.proofs.run_over.run.Goals as goal
@@ -70,34 +73,49 @@ pub returns-in-Err-serve-clause-complete_too_long : goal.returns-in-Err-serve-cl
 returns-in-Err-serve-clause-complete_too_long g c = λ told honest own named input output disk opened is long.
     ends g (goal.at.returns-in-Err-serve-clause-complete_too_long g c).After-serve opened c.in-Err-serve.status c.in-Err-serve.is told honest input output disk is
 
+-- and the log is on the disk as before
+quiet_mounted : (g : _) (c : After-serve g) → g.H.Source.tells → disk_of (g.H.Host.history c.args.host.now).now file.Log ≡ settled (g.H.Host.files c.args.host.now).log
+    → disk_of (g.H.Host.history c.mount.new.host).now file.Log ≡ settled (g.H.Host.files c.mount.new.host).log
+quiet_mounted g c told quiet = ap (λ (h : History). disk_of h.now file.Log) (c.mount.ensures.history told) ∙ quiet ∙ ap settled (sym (same_log g c told))
+
 -- what serving says of a crash is said of the run
 module _ (g : _) (c : After-serve g) (told : g.H.Source.tells) (honest : IsHonest (g.H.Host.standing c.args.host.now))
     (quiet : disk_of (g.H.Host.history c.args.host.now).now file.Log ≡ settled (g.H.Host.files c.args.host.now).log) (opened : Opened) (is : opened_of (g.H.Host.files c.args.host.now).log ≡ Ok opened) where
-  quiet_mounted : disk_of (g.H.Host.history c.mount.new.host).now file.Log ≡ settled (g.H.Host.files c.mount.new.host).log
-  quiet_mounted = ap (λ (h : History). disk_of h.now file.Log) (c.mount.ensures.history told) ∙ quiet ∙ ap settled (sym (same_log g c told))
-
   is_mounted : opened_of (g.H.Host.files c.mount.new.host).log ≡ Ok opened
   is_mounted = ap opened_of (same_log g c told) ∙ is
 
-  opens : IsSafeFromOpening (g.H.Host.files c.args.host.now).log opened (g.H.Source.unread c.args.host.now) (g.H.Host.written c.args.host.now) (g.H.Host.history c.args.host.now) (g.H.Host.history c.serve.new.host)
-  unfolding quiet_mounted is_mounted
-  opens =
-      subst (λ (old : List ℕ). IsSafeFromOpening old opened (g.H.Source.unread c.args.host.now) (g.H.Host.written c.args.host.now) (g.H.Host.history c.args.host.now) (g.H.Host.history c.serve.new.host)) (same_log g c told)
-      (subst (λ (h : History). IsSafeFromOpening (g.H.Host.files c.mount.new.host).log opened (g.H.Source.unread c.args.host.now) (g.H.Host.written c.args.host.now) h (g.H.Host.history c.serve.new.host)) (c.mount.ensures.history told)
-      (subst (λ (i : List ℕ). IsSafeFromOpening (g.H.Host.files c.mount.new.host).log opened i (g.H.Host.written c.args.host.now) (g.H.Host.history c.mount.new.host) (g.H.Host.history c.serve.new.host)) c.mount.ensures.unread
-      (subst (λ (w : List ℕ). IsSafeFromOpening (g.H.Host.files c.mount.new.host).log opened (g.H.Source.unread c.mount.new.host) w (g.H.Host.history c.mount.new.host) (g.H.Host.history c.serve.new.host)) c.mount.ensures.written
-      (c.serve.ensures.crash told (still g c honest) quiet_mounted opened is_mounted))))
+  opens : (status : Status) → IsSafeFromOpening (g.H.Host.files c.mount.new.host).log opened (g.H.Source.unread c.mount.new.host) (g.H.Host.written c.mount.new.host) status (g.H.Host.history c.mount.new.host) (g.H.Host.history c.serve.new.host)
+      → IsSafeFromOpening (g.H.Host.files c.args.host.now).log opened (g.H.Source.unread c.args.host.now) (g.H.Host.written c.args.host.now) status (g.H.Host.history c.args.host.now) (g.H.Host.history c.serve.new.host)
+  opens status serves =
+      subst (λ (old : List ℕ). IsSafeFromOpening old opened (g.H.Source.unread c.args.host.now) (g.H.Host.written c.args.host.now) status (g.H.Host.history c.args.host.now) (g.H.Host.history c.serve.new.host)) (same_log g c told)
+      (subst (λ (h : History). IsSafeFromOpening (g.H.Host.files c.mount.new.host).log opened (g.H.Source.unread c.args.host.now) (g.H.Host.written c.args.host.now) status h (g.H.Host.history c.serve.new.host)) (c.mount.ensures.history told)
+      (subst (λ (i : List ℕ). IsSafeFromOpening (g.H.Host.files c.mount.new.host).log opened i (g.H.Host.written c.args.host.now) status (g.H.Host.history c.mount.new.host) (g.H.Host.history c.serve.new.host)) c.mount.ensures.unread
+      (subst (λ (w : List ℕ). IsSafeFromOpening (g.H.Host.files c.mount.new.host).log opened (g.H.Source.unread c.mount.new.host) w status (g.H.Host.history c.mount.new.host) (g.H.Host.history c.serve.new.host)) c.mount.ensures.written
+      serves)))
 
-  safe_in_run : (m : Moment) → IsSafe opened (g.H.Source.unread c.mount.new.host) (g.H.Host.written c.mount.new.host) m → IsSafe opened (g.H.Source.unread c.args.host.now) (g.H.Host.written c.args.host.now) m
+  safe_in_run : (m : Moment) → IsSafe (g.H.Host.files c.mount.new.host).log opened (g.H.Source.unread c.mount.new.host) (g.H.Host.written c.mount.new.host) m → IsSafe (g.H.Host.files c.args.host.now).log opened (g.H.Source.unread c.args.host.now) (g.H.Host.written c.args.host.now) m
   safe_in_run m safe =
-      subst (λ (i : List ℕ). IsSafe opened i (g.H.Host.written c.args.host.now) m) c.mount.ensures.unread
-      (subst (λ (w : List ℕ). IsSafe opened (g.H.Source.unread c.mount.new.host) w m) c.mount.ensures.written safe)
+      subst (λ (old : List ℕ). IsSafe old opened (g.H.Source.unread c.args.host.now) (g.H.Host.written c.args.host.now) m) (same_log g c told)
+      (subst (λ (i : List ℕ). IsSafe (g.H.Host.files c.mount.new.host).log opened i (g.H.Host.written c.args.host.now) m) c.mount.ensures.unread
+      (subst (λ (w : List ℕ). IsSafe (g.H.Host.files c.mount.new.host).log opened (g.H.Source.unread c.mount.new.host) w m) c.mount.ensures.written safe))
+
+pub returns-in_default-clause-crash : goal.returns-in_default-clause-crash
+returns-in_default-clause-crash g c = λ told honest quiet opened is. not_opened _ opened _ _ Usage _ refl
+
+pub returns-in-Err-clause-crash : goal.returns-in-Err-clause-crash
+returns-in-Err-clause-crash g c = λ told honest quiet opened is.
+    subst (λ (new : History). IsSafeFromOpening (g.H.Host.files c.args.host.now).log opened (g.H.Source.unread c.args.host.now) (g.H.Host.written c.args.host.now) c.in-Err.status (g.H.Host.history c.args.host.now) new) (sym (c.mount.ensures.history told))
+    (not_opened _ opened _ _ c.in-Err.status _ (not_mounted_as c.in-Err.status c.in-Err.ensures.only))
 
 pub returns-in-Ok-clause-crash : goal.returns-in-Ok-clause-crash
-returns-in-Ok-clause-crash g c = λ told honest quiet opened is. opens g (goal.at.returns-in-Ok-clause-crash g c).After-serve told honest quiet opened is
+returns-in-Ok-clause-crash g c = λ told honest quiet opened is.
+    let at = (goal.at.returns-in-Ok-clause-crash g c).After-serve in
+    opens g at told honest quiet opened is Done (c.in-Ok.ensures.crash told (still g at honest) (quiet_mounted g at told quiet) opened (is_mounted g at told honest quiet opened is))
 
 pub returns-in-Err-serve-clause-crash : goal.returns-in-Err-serve-clause-crash
-returns-in-Err-serve-clause-crash g c = λ told honest quiet opened is. opens g (goal.at.returns-in-Err-serve-clause-crash g c).After-serve told honest quiet opened is
+returns-in-Err-serve-clause-crash g c = λ told honest quiet opened is.
+    let at = (goal.at.returns-in-Err-serve-clause-crash g c).After-serve in
+    opens g at told honest quiet opened is c.in-Err-serve.status (c.in-Err-serve.ensures.crash told (still g at honest) (quiet_mounted g at told quiet) opened (is_mounted g at told honest quiet opened is))
 
 pub returns-in_default-clause-safe : goal.returns-in_default-clause-safe
 returns-in_default-clause-safe g c = λ told honest quiet opened is.
@@ -105,7 +123,7 @@ returns-in_default-clause-safe g c = λ told honest quiet opened is.
     let input = g.H.Source.unread c.args.host.now in
     let before = g.H.Host.written c.args.host.now in
     let h = g.H.Host.history c.args.host.now in
-    kept_safe old opened input before h h Usage is quiet (g.met.H.Host.output_now c.args.host.now told) (not_opened old opened input before h) (λ has. absurd (cc))
+    kept_safe old opened input before h h Usage is quiet (g.met.H.Host.output_now c.args.host.now told) (not_opened old opened input before Usage h refl) (λ has. absurd (cc))
 
 pub returns-in-Err-clause-safe : goal.returns-in-Err-clause-safe
 returns-in-Err-clause-safe g c = λ told honest quiet opened is has.
@@ -113,41 +131,41 @@ returns-in-Err-clause-safe g c = λ told honest quiet opened is has.
     let input = g.H.Source.unread c.args.host.now in
     let before = g.H.Host.written c.args.host.now in
     let h = g.H.Host.history c.args.host.now in
-    subst (λ (new : History). IsSafe opened input before new.now) (sym (c.mount.ensures.history told))
-    (kept_safe old opened input before h h c.in-Err.status is quiet (g.met.H.Host.output_now c.args.host.now told) (not_opened old opened input before h)
-    (λ later. absurd (not_mounted_as c.in-Err.status c.in-Err.ensures.only later)) has)
+    subst (λ (new : History). IsSafe old opened input before new.now) (sym (c.mount.ensures.history told))
+    (kept_safe old opened input before h h c.in-Err.status is quiet (g.met.H.Host.output_now c.args.host.now told) (not_opened old opened input before c.in-Err.status h (not_mounted_as c.in-Err.status c.in-Err.ensures.only))
+    (λ later. absurd (not_both c.in-Err.status (not_mounted_as c.in-Err.status c.in-Err.ensures.only) later)) has)
 
 pub returns-in-Ok-clause-safe : goal.returns-in-Ok-clause-safe
 returns-in-Ok-clause-safe g c = λ told honest quiet opened is has.
     let at = (goal.at.returns-in-Ok-clause-safe g c).After-serve in
-    safe_in_run g at told honest quiet opened is (g.H.Host.history c.serve.new.host).now (c.in-Ok.ensures.safe told (still g at honest) (quiet_mounted g at told honest quiet opened is) opened (is_mounted g at told honest quiet opened is))
+    safe_in_run g at told honest quiet opened is (g.H.Host.history c.serve.new.host).now (c.in-Ok.ensures.safe told (still g at honest) (quiet_mounted g at told quiet) opened (is_mounted g at told honest quiet opened is))
 
 pub returns-in-Err-serve-clause-safe : goal.returns-in-Err-serve-clause-safe
 returns-in-Err-serve-clause-safe g c = λ told honest quiet opened is.
     let at = (goal.at.returns-in-Err-serve-clause-safe g c).After-serve in
     kept_safe (g.H.Host.files c.args.host.now).log opened (g.H.Source.unread c.args.host.now) (g.H.Host.written c.args.host.now) (g.H.Host.history c.args.host.now) (g.H.Host.history c.serve.new.host) c.in-Err-serve.status
-    is quiet (g.met.H.Host.output_now c.args.host.now told) (opens g at told honest quiet opened is)
-    (λ has. safe_in_run g at told honest quiet opened is (g.H.Host.history c.serve.new.host).now (c.in-Err-serve.ensures.safe told (still g at honest) (quiet_mounted g at told honest quiet opened is) opened (is_mounted g at told honest quiet opened is) has))
+    is quiet (g.met.H.Host.output_now c.args.host.now told) (returns-in-Err-serve-clause-crash g c told honest quiet opened is)
+    (λ has. safe_in_run g at told honest quiet opened is (g.H.Host.history c.serve.new.host).now (c.in-Err-serve.ensures.safe told (still g at honest) (quiet_mounted g at told quiet) opened (is_mounted g at told honest quiet opened is) has))
 
 -- the log as it stands after serving
 still_after : (g : _) (c : After-serve g) → IsHonest (g.H.Host.standing c.args.host.now) → IsHonest (g.H.Host.standing c.serve.new.host)
 still_after g c honest = subst IsHonest (sym c.serve.ensures.standing) (still g c honest)
 
 left_in_run : (g : _) (c : After-serve g) → g.H.Source.tells → IsHonest (g.H.Host.standing c.args.host.now) → (opened : Opened)
-    → IsSafe opened (g.H.Source.unread c.args.host.now) (g.H.Host.written c.args.host.now) (g.H.Host.history c.serve.new.host).now
-    → Survives opened (g.H.Source.unread c.args.host.now) (g.H.Host.written c.args.host.now) (g.H.Host.written c.serve.new.host) (g.H.Host.files c.serve.new.host).log
+    → IsSafe (g.H.Host.files c.args.host.now).log opened (g.H.Source.unread c.args.host.now) (g.H.Host.written c.args.host.now) (g.H.Host.history c.serve.new.host).now
+    → Survives (g.H.Host.files c.args.host.now).log opened (g.H.Source.unread c.args.host.now) (g.H.Host.written c.args.host.now) (g.H.Host.written c.serve.new.host) (g.H.Host.files c.serve.new.host).log
 left_in_run g c told honest opened safe =
-    left_now opened (g.H.Source.unread c.args.host.now) (g.H.Host.written c.args.host.now) (g.H.Host.history c.serve.new.host).now (g.H.Host.written c.serve.new.host) (g.H.Host.files c.serve.new.host).log
+    left_now (g.H.Host.files c.args.host.now).log opened (g.H.Source.unread c.args.host.now) (g.H.Host.written c.args.host.now) (g.H.Host.history c.serve.new.host).now (g.H.Host.written c.serve.new.host) (g.H.Host.files c.serve.new.host).log
     safe (g.met.H.Host.output_now c.serve.new.host told) (g.met.H.Host.read_may_be_left c.serve.new.host told (still_after g c honest) file.Log)
 
 pub returns-in_default-clause-left : goal.returns-in_default-clause-left
 returns-in_default-clause-left g c = λ told honest quiet opened is has.
-    left_now opened (g.H.Source.unread c.args.host.now) (g.H.Host.written c.args.host.now) (g.H.Host.history c.args.host.now).now (g.H.Host.written c.args.host.now) (g.H.Host.files c.args.host.now).log
+    left_now (g.H.Host.files c.args.host.now).log opened (g.H.Source.unread c.args.host.now) (g.H.Host.written c.args.host.now) (g.H.Host.history c.args.host.now).now (g.H.Host.written c.args.host.now) (g.H.Host.files c.args.host.now).log
     (returns-in_default-clause-safe g c told honest quiet opened is has) (g.met.H.Host.output_now c.args.host.now told) (g.met.H.Host.read_may_be_left c.args.host.now told honest file.Log)
 
 pub returns-in-Err-clause-left : goal.returns-in-Err-clause-left
 returns-in-Err-clause-left g c = λ told honest quiet opened is has.
-    left_now opened (g.H.Source.unread c.args.host.now) (g.H.Host.written c.args.host.now) (g.H.Host.history c.mount.new.host).now (g.H.Host.written c.mount.new.host) (g.H.Host.files c.mount.new.host).log
+    left_now (g.H.Host.files c.args.host.now).log opened (g.H.Source.unread c.args.host.now) (g.H.Host.written c.args.host.now) (g.H.Host.history c.mount.new.host).now (g.H.Host.written c.mount.new.host) (g.H.Host.files c.mount.new.host).log
     (returns-in-Err-clause-safe g c told honest quiet opened is has) (g.met.H.Host.output_now c.mount.new.host told)
     (g.met.H.Host.read_may_be_left c.mount.new.host told (subst (λ (b : Bool). IsTrue b) (sym c.mount.ensures.honest) honest) file.Log)
 
@@ -158,3 +176,46 @@ returns-in-Ok-clause-left g c = λ told honest quiet opened is has.
 pub returns-in-Err-serve-clause-left : goal.returns-in-Err-serve-clause-left
 returns-in-Err-serve-clause-left g c = λ told honest quiet opened is has.
     left_in_run g (goal.at.returns-in-Err-serve-clause-left g c).After-serve told honest opened (returns-in-Err-serve-clause-safe g c told honest quiet opened is has)
+
+-- a log that was not born, after serving
+begun_in_run : (g : _) (c : After-serve g) → g.H.Source.tells → IsHonest (g.H.Host.standing c.args.host.now) → is_born (g.H.Host.files c.args.host.now).log ≡ false
+    → IsUnbornOrSurvives (g.H.Host.files c.args.host.now).log (g.H.Source.unread c.args.host.now) (g.H.Host.written c.args.host.now) (g.H.Host.written c.serve.new.host) (g.H.Host.files c.serve.new.host).log
+begun_in_run g c told honest unborn =
+    let out = g.H.Host.written c.serve.new.host in
+    let log = (g.H.Host.files c.serve.new.host).log in
+    subst (λ (old : List ℕ). IsUnbornOrSurvives old (g.H.Source.unread c.args.host.now) (g.H.Host.written c.args.host.now) out log) (same_log g c told)
+    (subst (λ (i : List ℕ). IsUnbornOrSurvives (g.H.Host.files c.mount.new.host).log i (g.H.Host.written c.args.host.now) out log) c.mount.ensures.unread
+    (subst (λ (w : List ℕ). IsUnbornOrSurvives (g.H.Host.files c.mount.new.host).log (g.H.Source.unread c.mount.new.host) w out log) c.mount.ensures.written
+    (c.serve.ensures.begun told (still g c honest) (ap is_born (same_log g c told) ∙ unborn))))
+
+pub returns-in_default-clause-begun : goal.returns-in_default-clause-begun
+returns-in_default-clause-begun g c = λ told honest unborn. inl unborn
+
+pub returns-in-Err-clause-begun : goal.returns-in-Err-clause-begun
+returns-in-Err-clause-begun g c = λ told honest unborn. inl (ap (λ (f : Five (List ℕ)). is_born f.log) (c.mount.ensures.files told) ∙ unborn)
+
+pub returns-in-Ok-clause-begun : goal.returns-in-Ok-clause-begun
+returns-in-Ok-clause-begun g c = begun_in_run g (goal.at.returns-in-Ok-clause-begun g c).After-serve
+
+pub returns-in-Err-serve-clause-begun : goal.returns-in-Err-serve-clause-begun
+returns-in-Err-serve-clause-begun g c = begun_in_run g (goal.at.returns-in-Err-serve-clause-begun g c).After-serve
+
+-- of the disk the log alone is touched
+pub returns-in_default-clause-alone : goal.returns-in_default-clause-alone
+returns-in_default-clause-alone g c = λ told honest quiet. since_none _ _
+
+pub returns-in-Err-clause-alone : goal.returns-in-Err-clause-alone
+returns-in-Err-clause-alone g c = λ told honest quiet.
+    let h = g.H.Host.history c.args.host.now in
+    subst (λ (new : History). Since (IsLogAlone h.now) h new) (sym (c.mount.ensures.history told)) (since_none _ h)
+
+alone_in_run : (g : _) (c : After-serve g) → g.H.Source.tells → IsHonest (g.H.Host.standing c.args.host.now) → disk_of (g.H.Host.history c.args.host.now).now file.Log ≡ settled (g.H.Host.files c.args.host.now).log
+    → Since (IsLogAlone (g.H.Host.history c.args.host.now).now) (g.H.Host.history c.args.host.now) (g.H.Host.history c.serve.new.host)
+alone_in_run g c told honest quiet =
+    subst (λ (h : History). Since (IsLogAlone h.now) h (g.H.Host.history c.serve.new.host)) (c.mount.ensures.history told) (c.serve.ensures.alone told (still g c honest) (quiet_mounted g c told honest quiet))
+
+pub returns-in-Ok-clause-alone : goal.returns-in-Ok-clause-alone
+returns-in-Ok-clause-alone g c = alone_in_run g (goal.at.returns-in-Ok-clause-alone g c).After-serve
+
+pub returns-in-Err-serve-clause-alone : goal.returns-in-Err-serve-clause-alone
+returns-in-Err-serve-clause-alone g c = alone_in_run g (goal.at.returns-in-Err-serve-clause-alone g c).After-serve

@@ -5,8 +5,10 @@ use Rattle.hs_host.specs.Moments.{Since}
 use Rattle.hs_host.proofs.Passing.{since_weaker, since_join}
 use Rattle.hs_gate.specs.Crash.{IsCalm}
 use Rattle.hs_entries.specs.Reader.{ahead, left_items, left_whole, next_number}
+use Rattle.hs_top.specs.Crash.{IsLogAlone}
 use Rattle.hs_top.specs.Holding.{IsHeld, IsGathered, IsAcknowledging}
 use Rattle.hs_top.specs.Acknowledged.{IsNamed, Each}
+use Rattle.hs_top.proofs.Alone.{alone_printing, alone_on}
 use Rattle.hs_top.proofs.Holding.{calm_told, held_telling, telling_handed}
 use Rattle.hs_top.proofs.Acknowledged.{items_named}
 use Rattle.hs_top.specs.declared.status.Status.TheVariants.{InputTooLong}
@@ -169,3 +171,22 @@ pub returns-clause-telling : goal.returns-clause-telling
 returns-clause-telling g c = λ told honest least before t.
     let at = (goal.at.returns-clause-telling g c).In-Ok in
     c.in_ok-answer.ensures.telling told (still_honest g at honest) (named g (goal.at.returns-clause-telling g c).After-answer told) least before (telling_read g at told least before t)
+
+-- what is touched in the turn
+turning_alone : (g : _) (c : After-answer g) → g.H.Source.tells → IsHonest (g.H.Host.standing c.args.host.now) → IsCalm (g.H.Host.history c.args.host.now) (g.H.Host.files c.args.host.now) c.args.self.now.work.log.gated
+    → Since (IsLogAlone (g.H.Host.history c.args.host.now).now) (g.H.Host.history c.args.host.now) (g.H.Host.history c.answer.new.host)
+turning_alone g c told honest calm =
+    let at = (goal.at.After-answer g c).In-Ok in
+    alone_on (alone_printing (c.next_item.ensures.moments told)) (c.answer.ensures.alone told (still_honest g at honest) (calm_read g at told calm))
+
+pub returns-in-Err-clause-alone : goal.returns-in-Err-clause-alone
+returns-in-Err-clause-alone g c = λ told honest calm. alone_printing (c.next_item.ensures.moments told)
+
+pub returns-then-is_end-clause-alone : goal.returns-then-is_end-clause-alone
+returns-then-is_end-clause-alone g c = λ told honest calm. alone_printing (c.next_item.ensures.moments told)
+
+pub returns-in_err-answer-clause-alone : goal.returns-in_err-answer-clause-alone
+returns-in_err-answer-clause-alone g c = turning_alone g (goal.at.returns-in_err-answer-clause-alone g c).After-answer
+
+pub returns-clause-alone : goal.returns-clause-alone
+returns-clause-alone g c = turning_alone g (goal.at.returns-clause-alone g c).After-answer
