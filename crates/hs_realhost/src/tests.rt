@@ -154,8 +154,11 @@ fn leaves_other_files_alone(rt: HostRuntime) -> Result<(), Fail> {
         mounted(&rt, folder.as_str(), "a")?,
         Err(MountFault::Foreign)
     );
-    let path = format!(in alloc; "{folder}/a.script")?;
-    assert!(rt; !fs::exists(&rt, path.as_str())?);
+    assert!(rt; fs::read(&rt, path.as_str())?.as_slice() == b"version=2".as_slice());
+    for ending in [".script", ".script.new", ".log", ".data", ".backup"] {
+        let path = format!(in alloc; "{folder}/a{ending}")?;
+        assert!(rt; !fs::exists(&rt, path.as_str())?);
+    }
     let path = format!(in alloc; "{folder}/b.data")?;
     fs::create_dir(&rt, path.as_str())?;
     assert_eq!(rt; mounted(&rt, folder.as_str(), "b")?, Err(MountFault::Fault));
