@@ -17,7 +17,6 @@ use Rattle.hs_entries.specs.declared.place.Place.{Place}
 use Rattle.hs_entries.specs.declared.place.Place.TheVariants.{Between}
 use Rattle.hs_entries.specs.Parts.{lacks}
 use Rattle.hs_entries.specs.Place.{next_place, ends, is_between, is_entry}
-use Rattle.hs_entries.specs.declared.item.TheConstants.{MOST_NAME_BYTES}
 use Rattle.hs_entries.specs.Entry.{is_colon, is_session, is_name_byte, is_letter, session_of, statement_of as text_of, place_of, has_session, is_too_long, item_of, cut_item_of}
 use Rattle.hs_entries.specs.Items.{items_from, cut_items, no_items, items, whole_items}
 use Rattle.hs_top.specs.declared.database.Database.{Database}
@@ -404,8 +403,8 @@ step_tells (item.Entry n name text at) s named out so_far = entry (session_admit
 session_clean : (name : List ℕ) → is_session name ≡ true → lacks 10 name ≡ true
 session_clean [] h = absurd (cc)
 session_clean (b ∷ bs) h =
-    let parts = and_parts (is_letter b) (nat_lt (length bs) MOST_NAME_BYTES && list_all is_name_byte bs) h in
-    and_from _ _ (passing is_letter 10 b refl parts.0) (all_lack is_name_byte 10 refl bs (and_parts (nat_lt (length bs) MOST_NAME_BYTES) (list_all is_name_byte bs) parts.1).1)
+    let parts = and_parts (is_letter b) (nat_lt (length bs) 32 && list_all is_name_byte bs) h in
+    and_from _ _ (passing is_letter 10 b refl parts.0) (all_lack is_name_byte 10 refl bs (and_parts (nat_lt (length bs) 32) (list_all is_name_byte bs) parts.1).1)
 
 item_named : (n : ℕ) (bytes : List ℕ) → IsNamed (item_of n bytes)
 unfolding item_of
