@@ -22,4 +22,5 @@ pub mod Spelled
 pub mod Tables
 pub mod Taken
 pub mod Acknowledged
+pub mod Replies
 pub mod Turns

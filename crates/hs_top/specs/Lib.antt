@@ -7,6 +7,7 @@ pub mod Holding
 pub mod Lines
 pub mod Machine
 pub mod Opening
+pub mod Replies
 pub mod Running
 pub mod Sessions
 pub mod Spelling
