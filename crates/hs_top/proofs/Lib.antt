@@ -1,5 +1,6 @@
 pub mod Begun
 pub mod Committed
+pub mod Damaged
 pub mod Digits
 pub mod Endings
 pub mod Entries

@@ -1,6 +1,7 @@
 pub mod Command
 pub mod CommitText
 pub mod Crash
+pub mod Damaged
 pub mod Database
 pub mod Entries
 pub mod Holding

@@ -1,10 +1,12 @@
 // Laws of the machine and of texts, which say that their definitions mean what they are to mean.
-ghost use Rattle.std.specs.Prelude.{◌≡◌, ℕ, ◌+◌, List, [], ◌∷◌, ◌++◌, Option, None, Some, Ok, IfSome, true, false};
+ghost use Rattle.std.specs.Prelude.{◌≡◌, ℕ, ◌+◌, List, [], ◌∷◌, ◌++◌, Option, None, Some, Ok, Err, suc, IfSome, true, false};
 ghost use Rattle.hs_values.specs.declared.value.Value.{Value};
 ghost use Rattle.hs_top.specs.declared.commit_text.Commit.{Commit};
 ghost use Rattle.hs_top.specs.declared.database.Database.{Database};
 ghost use Rattle.hs_top.specs.declared.statement.Statement.{Statement};
 ghost use Rattle.hs_top.specs.declared.table.Table.{Table};
+ghost use Rattle.hs_gate.specs.Groups.{groups_of, is_born};
+ghost use Rattle.hs_top.specs.Damaged.{HasFirstEpoch, IsFirstDamage};
 ghost use Rattle.hs_top.specs.Database.{executed, first_repeated, is_among, named_by, table_of, Repeats};
 ghost use Rattle.hs_entries.specs.declared.item.Item.{Item};
 ghost use Rattle.hs_entries.specs.Items.{items};
@@ -79,4 +81,12 @@ pub fn spelled_commits_are_read()
 pub fn a_log_gives_what_the_runs_made()
     ensures texts { (opened : Opened) (input : List ℕ) → IfSome opened.last IsSession → replayed opened (texts_from opened input) ≡ Ok (ended_with opened input) }
     ensures whole { (old new : List ℕ) (opened : Opened) (input : List ℕ) → opened_of old ≡ Ok opened → IsWholeLog new (texts_at old ++ texts_from opened input) → opened_of new ≡ Ok (ended_with opened input) }
+{}
+
+/// The number of a damage is that of the first damaged group: the groups before it are made again one after another, and it makes
+/// nothing of what they made, or is broken. It is 0 exactly where a born log isn't open with epoch 1.
+pub fn damage_is_that_of_the_first_group()
+    ensures group { (log : List ℕ) (before : ℕ) → opened_of log ≡ Err (suc before) → IsFirstDamage (groups_of log) before }
+    ensures header { (log : List ℕ) → opened_of log ≡ Err 0 → (is_born log ≡ true) × (HasFirstEpoch log → ⊥) }
+    ensures no_header { (log : List ℕ) → is_born log ≡ true → (HasFirstEpoch log → ⊥) → opened_of log ≡ Err 0 }
 {}
