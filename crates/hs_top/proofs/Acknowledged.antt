@@ -54,7 +54,7 @@ pub more : (out : List ℕ) (a b : ℕ) → AcknowledgesAtMost out a → a ≤ b
 more out a b told grows n t = omega (arith, told n t)
 
 -- bytes that lack one
-lacks-append : (a : ℕ) (xs ys : List ℕ) → lacks a xs ≡ true → lacks a ys ≡ true → lacks a (xs ++ ys) ≡ true
+pub lacks-append : (a : ℕ) (xs ys : List ℕ) → lacks a xs ≡ true → lacks a ys ≡ true → lacks a (xs ++ ys) ≡ true
 lacks-append a [] ys front rest = rest
 lacks-append a (x ∷ xs) ys front rest = let parts = and_parts (not (x == a)) (lacks a xs) front in and_from _ _ parts.0 (lacks-append a xs ys parts.1 rest)
 
@@ -86,7 +86,7 @@ decimal_digits : (n : ℕ) → list_all is_digit (decimal n) ≡ true
 unfolding digits
 decimal_digits n = glyphs 64 n [] refl
 
-decimal_lacks : (a : ℕ) → is_digit a ≡ false → (n : ℕ) → lacks a (decimal n) ≡ true
+pub decimal_lacks : (a : ℕ) → is_digit a ≡ false → (n : ℕ) → lacks a (decimal n) ≡ true
 decimal_lacks a none n = all_lack is_digit a none (decimal n) (decimal_digits n)
 
 below : (n m k : ℕ) → n < k → k ≤ m → n ≤ m
@@ -176,9 +176,9 @@ module _ (out text : List ℕ) (most next : ℕ) (so_far : AcknowledgesLines out
   }
 
 -- Behind a space, a line can end in this text, and tells of no commit beyond this one.
-record TextTells (text : List ℕ) (most : ℕ) : Type 0 where
-  plain : lacks 10 text ≡ true
-  told : (front before : List ℕ) (n : ℕ) → n < 10 ^ 64 → front ++ 32 ∷ text ≡ before ++ committed_text n → n ≤ most
+pub record TextTells (text : List ℕ) (most : ℕ) : Type 0 where
+  pub plain : lacks 10 text ≡ true
+  pub told : (front before : List ℕ) (n : ℕ) → n < 10 ^ 64 → front ++ 32 ∷ text ≡ before ++ committed_text n → n ≤ most
 
 -- a word that isn't a number
 word : (w : List ℕ) (most : ℕ) → lacks 10 w ≡ true → lacks 32 w ≡ true → list_all is_digit w ≡ false → TextTells w most
@@ -237,7 +237,7 @@ value_lacks a none minus (Int (pos n)) = decimal_lacks a none n
 value_lacks a none minus (Int (negsuc n)) = and_from _ _ (not_from_false (45 == a) minus) (decimal_lacks a none (suc n))
 value_lacks a none minus _ = refl
 
-row_lacks : (a : ℕ) → is_digit a ≡ false → (45 == a) ≡ false → lacks a (codes ",") ≡ true → (row : List Value) → lacks a (row_text row) ≡ true
+pub row_lacks : (a : ℕ) → is_digit a ≡ false → (45 == a) ≡ false → lacks a (codes ",") ≡ true → (row : List Value) → lacks a (row_text row) ≡ true
 row_lacks a none minus comma [] = refl
 row_lacks a none minus comma (v ∷ []) = value_lacks a none minus v
 row_lacks a none minus comma (v ∷ w ∷ row) =
@@ -247,12 +247,12 @@ row_tells : (row : List Value) (most : ℕ) → TextTells (codes "row " ++ row_t
 row_tells row most = two_words (codes "row") (row_text row) most refl refl (row_lacks 10 refl refl refl row) (row_lacks 32 refl refl refl row) (λ e. absurd (omega arith))
 
 -- replies
-abbrev reply_text : Reply → List ℕ
+abbrev pub reply_text : Reply → List ℕ
 reply_text (Done count committed) = codes "ok" ++ text_or_nothing count_text count ++ text_or_nothing committed_text committed
 reply_text (Refused refusal) = codes "refused " ++ refusal_text refusal
 
 -- the reply names a commit up to this one, or a table or a column, or nothing
-abbrev Fits : Reply → ℕ → Type 0
+abbrev pub Fits : Reply → ℕ → Type 0
 Fits (Done count None) most = Unit {0}
 Fits (Done count (Some n)) most = n ≤ most
 Fits (Refused (Exists name)) most = IsName name
@@ -269,7 +269,7 @@ counted : (n most : ℕ) (w : List ℕ) → TextTells w most → TextTells (code
 counted n most w says =
     subst (λ (l : List ℕ). TextTells l most) (sym (append-nil ((codes "ok " ++ decimal n) ++ 32 ∷ w))) (led (codes "ok " ++ decimal n) w most (decimal_lacks 10 refl n) says)
 
-reply_tells : (reply : Reply) (most : ℕ) → Fits reply most → TextTells (reply_text reply) most
+pub reply_tells : (reply : Reply) (most : ℕ) → Fits reply most → TextTells (reply_text reply) most
 reply_tells (Done None None) most fits = word (codes "ok") most refl refl refl
 reply_tells (Done (Some n) None) most fits =
     cond_both (n == 1) (codes " row") (codes " rows") (λ (l : List ℕ). TextTells (codes "ok" ++ ((codes " " ++ decimal n) ++ l) ++ []) most)
@@ -359,7 +359,7 @@ first_named (n ∷ ns) earlier good =
     cond_both (is_among n earlier) (Some n) (first_repeated (earlier ++ n ∷ []) ns) (λ (o : Option (List ℕ)). IfSome o IsName) (λ _. All-head IsName n ns good) (λ _. first_named ns (earlier ++ n ∷ []) (All-tail IsName n ns good))
 
 module _ (db : Database) where
-  abbrev FitsItself : Outcome → Type 0
+  abbrev pub FitsItself : Outcome → Type 0
   FitsItself out = Fits out.reply out.database.commits
 
   created_fits : (name : List ℕ) (columns : List (List ℕ)) (there : Option Table) (repeated : Option (List ℕ)) → IsName name → IfSome repeated IsName → FitsItself (created db name columns there repeated)
@@ -377,7 +377,7 @@ module _ (db : Database) where
   selected_fits name None good = good
   selected_fits name (Some t) good = tt
 
-  performed_fits : (text : List ℕ) (st : Option Statement) → statement_of text ≡ st → FitsItself (performed db st)
+  pub performed_fits : (text : List ℕ) (st : Option Statement) → statement_of text ≡ st → FitsItself (performed db st)
   performed_fits text None is = tt
   performed_fits text (Some (Create name columns)) is =
       let good = (statement_spelled text (Create name columns) is).1 in

@@ -2,6 +2,7 @@ pub mod Alone
 pub mod Begun
 pub mod Committed
 pub mod Created
+pub mod Damaged
 pub mod Digits
 pub mod Endings
 pub mod Entries
@@ -24,4 +25,5 @@ pub mod Spelled
 pub mod Tables
 pub mod Taken
 pub mod Acknowledged
+pub mod Replies
 pub mod Turns

@@ -240,7 +240,7 @@ made_counts n db st next is = by_commit (is_commit (executed db st).reply) refl 
     by_commit true made e = sym (ap (λ (o : Opened). o.database.commits) (same_Some _ _ e)) ∙ executed_counts db st made
     by_commit false made e = absurd (cc)
 
-redone_counts : (o : Opened) (text : List ℕ) (next : Opened) → redone o text ≡ Some next → next.database.commits ≡ o.database.commits + 1
+pub redone_counts : (o : Opened) (text : List ℕ) (next : Opened) → redone o text ≡ Some next → next.database.commits ≡ o.database.commits + 1
 redone_counts o text next is =
     let found = bind_some (commit_of o.last text) (λ c. if_made c.session (executed o.database c.statement)) next is in
     made_counts found.0.session o.database found.0.statement next found.2

@@ -1,12 +1,14 @@
 pub mod Command
 pub mod CommitText
 pub mod Crash
+pub mod Damaged
 pub mod Database
 pub mod Entries
 pub mod Holding
 pub mod Lines
 pub mod Machine
 pub mod Opening
+pub mod Replies
 pub mod Running
 pub mod Sessions
 pub mod Spelling

@@ -1,6 +1,7 @@
 // What is wrong with the files of a database.
 
-/// What is wrong with the files of a database. Nothing of them was changed.
+/// What is wrong with the files of a database. With `Log` it is so over a host that reads honestly, and then, as with
+/// `Foreign` over each host, nothing of them was changed.
 #[derive(Debug, PartialEq, Eq, Drop)]
 pub enum Damage {
     /// They are those of another program: `.properties` stands beside them.

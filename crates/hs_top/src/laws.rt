@@ -1,12 +1,18 @@
 // Laws of the machine and of texts, which say that their definitions mean what they are to mean.
-ghost use Rattle.std.specs.Prelude.{◌≡◌, ℕ, ◌+◌, List, [], ◌∷◌, ◌++◌, Option, None, Some, Ok, IfSome, true, false};
+ghost use Rattle.std.specs.Prelude.{◌≡◌, ℕ, ◌+◌, List, [], ◌∷◌, ◌++◌, Option, None, Some, Ok, Err, suc, IfSome, true, false};
 ghost use Rattle.hs_values.specs.declared.value.Value.{Value};
 ghost use Rattle.hs_top.specs.declared.commit_text.Commit.{Commit};
 ghost use Rattle.hs_top.specs.declared.database.Database.{Database};
 ghost use Rattle.hs_top.specs.declared.statement.Statement.{Statement};
 ghost use Rattle.hs_top.specs.declared.table.Table.{Table};
+ghost use Rattle.hs_gate.specs.Groups.{groups_of, is_born};
+ghost use Rattle.hs_top.specs.Damaged.{HasFirstEpoch, IsFirstDamage};
 ghost use Rattle.hs_top.specs.Database.{executed, first_repeated, is_among, named_by, table_of, Repeats};
-ghost use Rattle.hs_top.specs.Machine.{Machine, IsOver, turn, steps, turns_left, is_commit};
+ghost use Rattle.hs_entries.specs.declared.item.Item.{Item};
+ghost use Rattle.hs_entries.specs.Items.{items};
+ghost use Rattle.hs_top.specs.Acknowledged.{Each, IsNamed};
+ghost use Rattle.hs_top.specs.Machine.{Machine, State, IsOver, turn, steps, step_of, turns_left, is_commit};
+ghost use Rattle.hs_top.specs.Replies.{HasOneReply, IsRow, IsReply, number_of, session_of};
 ghost use Rattle.hs_top.specs.Opening.{Opened, opened_of, replayed, texts_at, texts_from, ended_with, IsWholeLog};
 ghost use Rattle.hs_top.specs.Statement.{statement_of};
 ghost use Rattle.hs_top.specs.Spelling.{IsSpellable, spelled};
@@ -20,6 +26,16 @@ pub fn runs_end()
 /// A machine that has come to its end stays as it is and writes nothing.
 pub fn turns_change_nothing_at_the_end()
     ensures { (m : Machine) → IsOver m → turn m ≡ record { lines = []; texts = []; next = m } }
+{}
+
+/// Each item has one line with a reply, which begins with `ok` or `refused` behind its number and the name of its session, or
+/// `-`. Before that line it has only lines with rows. The end has no line. A name of a session in the items of an input has no
+/// line feed, so that each of these lines ends with the only one in it. No line is both a row and a reply.
+pub fn each_item_has_one_reply()
+    ensures lines { (item : Item) (s : State) → (item ≡ Item.End → ⊥) → IsNamed item → HasOneReply (number_of item) (session_of item) (step_of item s).lines }
+    ensures end { (s : State) → (step_of Item.End s).lines ≡ [] }
+    ensures named { (input : List ℕ) → Each IsNamed (items 1 input) }
+    ensures apart { (number : ℕ) (session line : List ℕ) → IsRow number session line → IsReply number session line → ⊥ }
 {}
 
 /// What a statement changes: nothing where it doesn't commit, and the count of commits by one where it does. Of the tables it changes
@@ -65,4 +81,12 @@ pub fn spelled_commits_are_read()
 pub fn a_log_gives_what_the_runs_made()
     ensures texts { (opened : Opened) (input : List ℕ) → IfSome opened.last IsSession → replayed opened (texts_from opened input) ≡ Ok (ended_with opened input) }
     ensures whole { (old new : List ℕ) (opened : Opened) (input : List ℕ) → opened_of old ≡ Ok opened → IsWholeLog new (texts_at old ++ texts_from opened input) → opened_of new ≡ Ok (ended_with opened input) }
+{}
+
+/// The number of a damage is that of the first damaged group: the groups before it are made again one after another, and it makes
+/// nothing of what they made, or is broken. It is 0 exactly where a born log isn't open with epoch 1.
+pub fn damage_is_that_of_the_first_group()
+    ensures group { (log : List ℕ) (before : ℕ) → opened_of log ≡ Err (suc before) → IsFirstDamage (groups_of log) before }
+    ensures header { (log : List ℕ) → opened_of log ≡ Err 0 → (is_born log ≡ true) × (HasFirstEpoch log → ⊥) }
+    ensures no_header { (log : List ℕ) → is_born log ≡ true → (HasFirstEpoch log → ⊥) → opened_of log ≡ Err 0 }
 {}

@@ -37,6 +37,7 @@ pub fn open_log<H: Host>(alloc: Global, host: &mut H) -> Result<Opening, Status>
     ensures opened { H.tells → IsHonest (H.standing host.old) → IfOk result (λ o. opened_of (H.files host.old).log ≡ Ok (opened_by o)) }
     ensures damaged { H.tells → IsHonest (H.standing host.old) → (damage : Damage) → IsErrOf result (Status.Damaged damage) → IsDamageOf (opened_of (H.files host.old).log) damage }
     ensures untouched { H.tells → IsHonest (H.standing host.old) → IfErr result (λ status. is_damaged status ≡ true → H.files host.new ≡ H.files host.old) }
+    ensures kept { H.tells → IsHonest (H.standing host.old) → (number : ℕ) → opened_of (H.files host.old).log ≡ Err number → H.files host.new ≡ H.files host.old }
     ensures logged { H.tells → IsHonest (H.standing host.old) → IfOk result (λ o. IsLog (H.files host.new) o.log) }
     ensures texts { H.tells → IsHonest (H.standing host.old) → OnOk result (texts_in (H.files host.new) ≡ texts_at (H.files host.old).log) }
     ensures others { H.tells → IsHonest (H.standing host.old) → OnlyLog (H.files host.old) (H.files host.new) }
@@ -100,6 +101,7 @@ fn read_log<H: Host>(alloc: Global, host: &mut H) -> Result<Opening, Status>
     ensures opened { H.tells → IsHonest (H.standing host.old) → IfOk result (λ o. opened_of (H.files host.old).log ≡ Ok (opened_by o)) }
     ensures damaged { H.tells → IsHonest (H.standing host.old) → (damage : Damage) → IsErrOf result (Status.Damaged damage) → IsDamageOf (opened_of (H.files host.old).log) damage }
     ensures untouched { H.tells → IsHonest (H.standing host.old) → IfErr result (λ status. is_damaged status ≡ true → H.files host.new ≡ H.files host.old) }
+    ensures kept { H.tells → IsHonest (H.standing host.old) → (number : ℕ) → opened_of (H.files host.old).log ≡ Err number → H.files host.new ≡ H.files host.old }
     ensures logged { H.tells → IsHonest (H.standing host.old) → IfOk result (λ o. IsLog (H.files host.new) o.log) }
     ensures texts { H.tells → IsHonest (H.standing host.old) → OnOk result (texts_in (H.files host.new) ≡ texts_at (H.files host.old).log) }
     ensures others { H.tells → IsHonest (H.standing host.old) → OnlyLog (H.files host.old) (H.files host.new) }

@@ -1,5 +1,5 @@
 // The top call.
-ghost use Rattle.std.specs.Prelude.{◌≡◌, ◌⊎◌, ◌↔◌, ℕ, ◌+◌, ◌^◌, ◌<◌, ◌≤◌, List, ◌++◌, true, false, None, Some, Ok, Err, length, OnOk, IfErr, IsErrOf, MatchResult};
+ghost use Rattle.std.specs.Prelude.{◌≡◌, ◌⊎◌, ◌↔◌, ℕ, ◌+◌, ◌^◌, ◌<◌, ◌≤◌, List, [], ◌++◌, true, false, None, Some, Ok, Err, length, OnOk, IfErr, IsErrOf, MatchResult};
 ghost use Rattle.hs_host.specs.Host.{Rose};
 ghost use Rattle.hs_gate.specs.Crash.{IsCalm};
 ghost use Rattle.hs_gate.specs.Groups.{is_born};
@@ -35,9 +35,10 @@ const MOST_INPUT: u64 = 1 << 30;
 /// order, logs each commit before its reply, and writes the lines of the transcript, as far as it comes, to
 /// the output. The words are `hsql DATABASE`. The host has no name yet.
 ///
-/// The status says how the run ended and why. Whatever it is, what was written is a prefix of the
-/// transcript over the commits of the log. At `Done` it is all of it, the log's groups are the texts of all
-/// commits, and the next run begins with the database with which this one ended.
+/// The status says how the run ended and why. Over a host that tells its bytes and is honest: whatever it is, what was
+/// written is a prefix of the transcript over the commits of the log. At `Done` the input was read to its end, all of the
+/// transcript was written, the log's groups are the texts of all commits, and the next run begins with the database with which
+/// this one ended. Over a damaged log nothing is written and no file is changed, whatever the status is.
 ///
 /// A crash at any moment of the run leaves a log with which the next run begins after some number of this one's
 /// turns, and with all commits that were told of by then. Only while a log is first made may it leave another. At a
@@ -54,6 +55,7 @@ pub fn run<H: Host>(alloc: Global, words: &Words, host: &mut H) -> Status
     // What is written.
     ensures front { H.tells → IsHonest (H.standing host.old) → WritesPrefix (H.written host.old) (H.written host.new) (shown (opened_of (H.files host.old).log) (H.unread host.old)) }
     ensures done { H.tells → IsHonest (H.standing host.old) → (opened : Opened) → opened_of (H.files host.old).log ≡ Ok opened → result ≡ Status.Done → H.written host.new ≡ H.written host.old ++ transcript (begun_with opened) (H.unread host.old) }
+    ensures read { H.tells → result ≡ Status.Done → H.unread host.new ≡ [] }
     ensures done_within { H.tells → result ≡ Status.Done → length (H.unread host.old) ≤ 2 ^ 30 }
     ensures too_long { H.tells → result ≡ Status.InputTooLong → 2 ^ 30 < length (H.unread host.old) }
     ensures before_too_long { H.tells → IsHonest (H.standing host.old) → (opened : Opened) → opened_of (H.files host.old).log ≡ Ok opened → result ≡ Status.InputTooLong → H.written host.new ≡ H.written host.old ++ transcript_within (2 ^ 30) (begun_with opened) (H.unread host.old) }
@@ -78,10 +80,12 @@ pub fn run<H: Host>(alloc: Global, words: &Words, host: &mut H) -> Status
     // Damaged files.
     ensures foreign { H.tells → result ≡ Status.Damaged Damage.Foreign → IsForeign (H.standing host.old) }
     ensures own { H.tells → IsForeign (H.standing host.old) → (result ≡ Status.Usage) ⊎ ((result ≡ Status.Damaged Damage.Foreign) ⊎ ((result ≡ Status.DiskFault) ⊎ (result ≡ Status.NoMemory))) }
+    ensures foreign_kept { H.tells → result ≡ Status.Damaged Damage.Foreign → H.files host.new ≡ H.files host.old }
     ensures damaged { H.tells → IsHonest (H.standing host.old) → (number : ℕ) → result ≡ Status.Damaged (Damage.Log number) → opened_of (H.files host.old).log ≡ Err number }
     ensures damage { H.tells → IsHonest (H.standing host.old) → (number : ℕ) → opened_of (H.files host.old).log ≡ Err number → (result ≡ Status.Usage) ⊎ ((result ≡ Status.Damaged Damage.Foreign) ⊎ ((result ≡ Status.Damaged (Damage.Log number)) ⊎ ((result ≡ Status.DiskFault) ⊎ (result ≡ Status.NoMemory)))) }
     ensures silent { is_damaged result ≡ true → (H.written host.new ≡ H.written host.old) × (H.unread host.new ≡ H.unread host.old) }
     ensures kept { H.tells → IsHonest (H.standing host.old) → is_damaged result ≡ true → H.files host.new ≡ H.files host.old }
+    ensures damaged_kept { H.tells → IsHonest (H.standing host.old) → (number : ℕ) → opened_of (H.files host.old).log ≡ Err number → H.files host.new ≡ H.files host.old }
 
     // Where no device fails, each run ends as it is to end, or for want of memory.
     ensures complete { H.tells → IsHonest (H.standing host.old) → (IsForeign (H.standing host.old) → ⊥) → (database_of words.now ≡ None → ⊥) → (Rose (H.input_faults host.old) (H.input_faults host.new) → ⊥) → (Rose (H.output_faults host.old) (H.output_faults host.new) → ⊥) → (Rose (H.disk_faults host.old) (H.disk_faults host.new) → ⊥) → (opened : Opened) → opened_of (H.files host.old).log ≡ Ok opened → length (H.unread host.old) ≤ 2 ^ 30 → (result ≡ Status.Done) ⊎ (result ≡ Status.NoMemory) }
@@ -144,7 +148,9 @@ fn serve<H: Host>(alloc: Global, host: &mut H) -> Result<(), Status>
     ensures undamaged { H.tells → IsHonest (H.standing host.old) → (number : ℕ) → opened_of (H.files host.old).log ≡ Err number → IfErr result (λ status. (status ≡ Status.Damaged (Damage.Log number)) ⊎ ((status ≡ Status.DiskFault) ⊎ (status ≡ Status.NoMemory))) }
     ensures silent { IfErr result (λ status. is_damaged status ≡ true → (H.written host.new ≡ H.written host.old) × (H.unread host.new ≡ H.unread host.old)) }
     ensures untouched { H.tells → IsHonest (H.standing host.old) → IfErr result (λ status. is_damaged status ≡ true → H.files host.new ≡ H.files host.old) }
+    ensures kept { H.tells → IsHonest (H.standing host.old) → (number : ℕ) → opened_of (H.files host.old).log ≡ Err number → H.files host.new ≡ H.files host.old }
     ensures others { H.tells → IsHonest (H.standing host.old) → OnlyLog (H.files host.old) (H.files host.new) }
+    ensures read { H.tells → OnOk result (H.unread host.new ≡ []) }
     ensures done_within { H.tells → OnOk result (length (H.unread host.old) ≤ 2 ^ 30) }
     ensures too_long { H.tells → IsErrOf result Status.InputTooLong → 2 ^ 30 < length (H.unread host.old) }
     ensures input_fault { IsErrOf result Status.InputFault → Rose (H.input_faults host.old) (H.input_faults host.new) }
@@ -180,6 +186,7 @@ fn answer_all<H: Host>(alloc: Global, opening: Opening, host: &mut H) -> Result<
     ensures alone { H.tells → IsHonest (H.standing host.old) → Since (IsLogAlone (H.history host.old).now) (H.history host.old) (H.history host.new) }
     ensures whole { IfErr result (λ status. is_damaged status ≡ false) }
     ensures others { H.tells → IsHonest (H.standing host.old) → OnlyLog (H.files host.old) (H.files host.new) }
+    ensures read { H.tells → OnOk result (H.unread host.new ≡ []) }
     ensures done_within { H.tells → OnOk result (length (H.unread host.old) ≤ 2 ^ 30) }
     ensures too_long { H.tells → IsErrOf result Status.InputTooLong → 2 ^ 30 < length (H.unread host.old) }
     ensures input_fault { IsErrOf result Status.InputFault → Rose (H.input_faults host.old) (H.input_faults host.new) }

@@ -3,10 +3,11 @@ use crate::damage::Damage;
 use hs_gate::GateFault;
 use std::alloc::{AllocError, AllocFailed};
 
-/// How a run ends. Each status but `Done` and `NoMemory` has one cause.
+/// How a run ends. Each status but `Done` and `NoMemory` has one cause. What is said of the input, the output and the files
+/// is said of a host that tells them.
 #[derive(Debug, PartialEq, Eq, Drop)]
 pub enum Status {
-    /// The input was read to its end, and the whole transcript was written.
+    /// The input was read to its end. Over an honest host the whole transcript was written.
     Done,
     /// The words of the command line are not those of the command. Nothing was read or written, and no file
     /// opened.
@@ -19,7 +20,8 @@ pub enum Status {
     DiskFault,
     /// Memory was refused. No rule says when.
     NoMemory,
-    /// The files stand for no database. No input was read, no output written, and no file changed.
+    /// The files stand for no database. No input was read and no output written. No file was changed, where the files
+    /// are another program's or the host is honest.
     Damaged(Damage),
     /// The next item, or the end of the input, was needed and isn't within the first 2^30 bytes of the
     /// input, which has more.

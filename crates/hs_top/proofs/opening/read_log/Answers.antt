@@ -1,12 +1,12 @@
-use Rattle.std.proofs.Common.{◌≡◌, List, ℕ, Err, sym, ap, subst, ◌∙◌}
+use Rattle.std.proofs.Common.{◌≡◌, List, ℕ, Ok, Err, sym, ap, subst, ◌∙◌}
 use Rattle.hs_host.specs.Files.{Five, IsHonest}
 use Rattle.hs_gate.proofs.Moments.{still_on}
 use Rattle.hs_top.specs.declared.status.Status.TheVariants.{Damaged}
-use Rattle.hs_top.specs.Opening.{replayed, nothing_logged, IsDamageOf}
+use Rattle.hs_top.specs.Opening.{replayed, nothing_logged, opened_by, IsDamageOf}
 use Rattle.hs_top.specs.Running.{texts_in}
 use Rattle.hs_top.proofs.Alone.{alone_reading}
 use Rattle.hs_top.proofs.Openings.{still_opening, settle_opening, settle_alone}
-use Rattle.hs_top.proofs.Replayed.{damage_is}
+use Rattle.hs_top.proofs.Replayed.{damage_is, undamaged}
 use Rattle.hs_top.proofs.opening.read_log.Goals as goal
 
 pub returns-in-Err-clause-damaged : goal.returns-in-Err-clause-damaged
@@ -15,6 +15,13 @@ returns-in-Err-clause-damaged g c = λ told honest damage is.
     let status : c.in-Err.status ≡ Damaged damage = cc in
     damage_is (g.H.Host.files c.args.host.now).log c.in-Some.front damage (c.requires.born told honest) (sym c.in-Some.is ∙ c.in_ok-front.ensures.reading told honest) c.if-front-ne1.false
     (subst (λ (f : Five (List ℕ)). IsDamageOf (replayed nothing_logged (texts_in f)) damage) (c.in_ok-front.ensures.files told honest) (c.in-Err.ensures.damaged told after damage (ap Err status)))
+
+pub returns-in_err-settle-clause-kept : goal.returns-in_err-settle-clause-kept
+returns-in_err-settle-clause-kept g c = λ told honest number is.
+    let after : IsHonest (g.H.Host.standing c.front.new.host) = subst IsHonest (sym c.in_ok-front.ensures.standing) honest in
+    absurd
+    (undamaged (g.H.Host.files c.args.host.now).log c.in-Some.front (opened_by c.in-Ok.opening) number (c.requires.born told honest) (sym c.in-Some.is ∙ c.in_ok-front.ensures.reading told honest) c.if-front-ne1.false c.if-front.false
+    (subst (λ (f : Five (List ℕ)). replayed nothing_logged (texts_in f) ≡ Ok (opened_by c.in-Ok.opening)) (c.in_ok-front.ensures.files told honest) (c.in-Ok.ensures.opened told after)) is)
 
 pub returns-in-Err-clause-moments : goal.returns-in-Err-clause-moments
 returns-in-Err-clause-moments g c = λ told honest quiet.

@@ -1,4 +1,4 @@
-use Rattle.std.proofs.Common.{◌≡◌, ◌++◌, ◌^◌, List, [], ℕ, length, take, refl, sym, ap, subst, ◌∙◌, arith, append-nil}
+use Rattle.std.proofs.Common.{◌≡◌, ◌++◌, ◌^◌, List, [], ◌∷◌, ℕ, length, take, refl, sym, ap, subst, ◌∙◌, arith, append-nil}
 use Rattle.hs_host.specs.Files.{Five, IsHonest, with_}
 use Rattle.hs_entries.specs.declared.item.Item.{Item}
 use Rattle.hs_entries.specs.Items.{items, whole_items}
@@ -21,6 +21,11 @@ use Rattle.hs_top.proofs.Taken.{fresh_items, fresh_whole}
 use Rattle.hs_top.proofs.Turns.{ended}
 use Rattle.hs_top.proofs.run_over.answer_all.Goals as goal
 use Rattle.hs_top.proofs.run_over.answer_all.Goals.{After-new-2, After-turn, After-flush}
+
+-- nothing stands behind what is nothing
+nothing_behind : (xs ys : List ℕ) → xs ++ ys ≡ [] → ys ≡ []
+nothing_behind [] ys is = is
+nothing_behind (x ∷ xs) ys is = absurd (cc)
 
 pub returns-in_err-push_opened-clause-front : goal.returns-in_err-push_opened-clause-front
 returns-in_err-push_opened-clause-front g c = λ told. nothing_yet _ _
@@ -99,6 +104,9 @@ returns-clause-front g c = front_of_whole g (goal.at.returns-clause-front g c).A
 
 pub returns-clause-done : goal.returns-clause-done
 returns-clause-done g c = λ told. c.in_ok-flush.ensures.done told ∙ whole g (goal.at.returns-clause-done g c).After-flush told
+
+pub returns-clause-read : goal.returns-clause-read
+returns-clause-read g c = λ told. c.flush.ensures.unread ∙ nothing_behind _ _ (c.in_ok-turn.ensures.end told c.if-branch.false)
 
 pub returns-clause-log : goal.returns-clause-log
 returns-clause-log g c = λ told honest.

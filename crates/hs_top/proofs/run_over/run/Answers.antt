@@ -37,6 +37,16 @@ pub returns-in-Ok-clause-reopens : goal.returns-in-Ok-clause-reopens
 returns-in-Ok-clause-reopens g c = λ told honest opened is same.
     reopened (g.H.Host.files c.args.host.now).log (g.H.Host.files c.serve.new.host).log opened (g.H.Source.unread c.args.host.now) is (returns-in-Ok-clause-log g c told honest opened is same)
 
+pub returns-in-Ok-clause-damaged_kept : goal.returns-in-Ok-clause-damaged_kept
+returns-in-Ok-clause-damaged_kept g c = λ told honest number is.
+    let at = (goal.at.returns-in-Ok-clause-damaged_kept g c).After-serve in
+    c.serve.ensures.kept told (still g at honest) number (ap opened_of (same_log g at told) ∙ is) ∙ c.mount.ensures.files told
+
+pub returns-in-Err-serve-clause-damaged_kept : goal.returns-in-Err-serve-clause-damaged_kept
+returns-in-Err-serve-clause-damaged_kept g c = λ told honest number is.
+    let at = (goal.at.returns-in-Err-serve-clause-damaged_kept g c).After-serve in
+    c.serve.ensures.kept told (still g at honest) number (ap opened_of (same_log g at told) ∙ is) ∙ c.mount.ensures.files told
+
 -- what is wrong with the log is what was found
 found : (g : _) (c : After-serve g) → g.H.Source.tells → IsHonest (g.H.Host.standing c.args.host.now) → (damage : Damage) → c.serve.result ≡ Err (Damaged damage)
     → IsDamageOf (opened_of (g.H.Host.files c.args.host.now).log) damage
