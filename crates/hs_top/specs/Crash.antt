@@ -20,14 +20,14 @@ opened_after turns opened input = opened_at (steps turns (machine (items 1 input
 abbrev pub texts_after : ℕ → Opened → List ℕ → List (List ℕ)
 texts_after turns opened input = texts turns (machine (items 1 input) (begun_with opened))
 
--- what was written behind an output tells of no later commit than this one
+-- what was written behind an output acknowledges no later commit than this one
 pub record AcknowledgesBehind (before out : List ℕ) (most : ℕ) : Type 0 where
   pub written : List ℕ
   pub is : out ≡ before ++ written
   pub told : AcknowledgesAtMost written most
 
 -- The next run over these bytes of a log begins with what this one had made after some number of its turns. The commits in
--- it are those of the log that it found and then those of these turns, and no later one was told of.
+-- it are those of the log that it found and then those of these turns, and no later one was acknowledged.
 pub record Survives (old : List ℕ) (opened : Opened) (input before out log : List ℕ) : Type 0 where
   pub turns : ℕ
   pub reopens : opened_of log ≡ Ok (opened_after turns opened input)
@@ -51,7 +51,7 @@ IsUnchanged old m = (log : List ℕ) → Leaves (disk_of m Log) log → GivesSam
 abbrev pub IsLogAlone : Moment → Moment → Type 0
 IsLogAlone before m = m.disks ≡ with_ before.disks Log (disk_of m Log)
 
--- While a log is opened nothing is told, and whatever a crash leaves of a born one gives what it gives.
+-- While a log is opened nothing is written, and whatever a crash leaves of a born one gives what it gives.
 abbrev pub IsOpening : List ℕ → List ℕ → Moment → Type 0
 IsOpening old before m = (m.out ≡ before) × ((is_born old ≡ false) ⊎ IsUnchanged old m)
 

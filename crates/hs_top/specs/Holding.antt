@@ -10,7 +10,7 @@ use Rattle.hs_top.specs.Crash.{AcknowledgesBehind}
 use Rattle.hs_top.specs.Running.{texts_in}
 use Rattle.hs_top.specs.Acknowledged.{AcknowledgesLines}
 
--- A log has so many commits at least, their texts are a prefix of these, and no later commit was told of.
+-- A log has so many commits at least, their texts are a prefix of these, and no later commit was acknowledged.
 pub record Holds (least : ℕ) (all : List (List ℕ)) (before out log : List ℕ) : Type 0 where
   pub born : is_born log ≡ true
   pub opened : is_open log ≡ true

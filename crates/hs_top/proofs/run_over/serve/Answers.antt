@@ -84,10 +84,10 @@ unchanged g c told honest =
     let h = g.H.Host.history c.open_log.new.host in
     let before = g.H.Host.written c.open_log.new.host in
     λ log leaves.
-        held_same (g.H.Host.files c.args.host.now).log (opened_by c.in-Ok.opening) before h.now.out log (ok.opened told honest)
-        (subst (λ (ts : List (List ℕ)). IsHeld (length ts) (ts ++ []) before h.now) (ok.texts told honest)
-        (held_opened (g.H.Host.files c.open_log.new.host) h c.in-Ok.opening.log ok.sound (ok.logged told honest) (ok.calm told honest) before [] (g.met.H.Host.output_now c.open_log.new.host told))
-        log leaves)
+    held_same (g.H.Host.files c.args.host.now).log (opened_by c.in-Ok.opening) before h.now.out log (ok.opened told honest)
+    (subst (λ (ts : List (List ℕ)). IsHeld (length ts) (ts ++ []) before h.now) (ok.texts told honest)
+    (held_opened (g.H.Host.files c.open_log.new.host) h c.in-Ok.opening.log ok.sound (ok.logged told honest) (ok.calm told honest) before [] (g.met.H.Host.output_now c.open_log.new.host told))
+    log leaves)
 
 pub returns-clause-crash : goal.returns-clause-crash
 returns-clause-crash g c = λ told honest quiet opened is.
