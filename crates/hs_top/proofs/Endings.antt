@@ -1,5 +1,5 @@
 -- As what a run can end where its log is so, and its devices are.
-use Rattle.std.proofs.Common.{◌≡◌, ◌⊎◌, ℕ, inl, inr, true, false, Result, Ok, Err, IsErrOf, MatchResult, refl, sym, ap, ◌∙◌}
+use Rattle.std.proofs.Common.{◌≡◌, ◌⊎◌, ℕ, inl, inr, true, false, Result, Ok, Err, OnErr, IsErrOf, MatchResult, refl, sym, ap, ◌∙◌}
 use Rattle.hs_top.specs.declared.damage.Damage.{Damage}
 use Rattle.hs_top.specs.declared.damage.Damage.TheVariants.{Foreign, Log}
 use Rattle.hs_top.specs.declared.status.Status.{Status}
@@ -32,6 +32,11 @@ not_mounted_as status (inr (inr is)) = ap has_opened is
 
 pub not_both : (status : Status) → has_opened status ≡ false → has_opened status ≡ true → ⊥
 not_both status not has = let e : false ≡ true = sym not ∙ has in cc
+
+-- what holds in any case holds after an error
+pub on_err : {T E P : Type 0} (result : Result T E) → P → OnErr result P
+on_err (Ok x) p = tt
+on_err (Err e) p = p
 
 -- what holds however a run ends holds of each status
 pub safe_either : {T P : Type 0} (result : Result T Status) → P → MatchResult result (λ _. P) (λ status. has_opened status ≡ true → P)

@@ -5,6 +5,7 @@ use Rattle.hs_host.specs.Moments.{Moment, History, disk_of}
 use Rattle.hs_host.specs.Disk.{settled}
 use Rattle.hs_host.specs.declared.file_kind.FileKind.TheVariants.{Log}
 use Rattle.hs_host.proofs.Passing.{still_now}
+use Rattle.hs_top.proofs.Endings.{on_err}
 use Rattle.hs_top.proofs.Alone.{alone_reading, alone_writing, alone_on}
 use Rattle.hs_top.proofs.Openings.{opening_on, unborn_opening}
 use Rattle.hs_top.proofs.opening.open_log.Goals as goal
@@ -20,7 +21,7 @@ returns-else-branch-clause-moments g c = λ told honest quiet.
     unborn_opening (g.H.Host.files c.args.host.now).log (sym (c.in_ok-is_born.ensures.born told honest) ∙ c.if-branch.false) (c.is_born.ensures.moments told honest) (c.new_log.ensures.moments told after)
 
 pub returns-in_err-is_born-clause-begun : goal.returns-in_err-is_born-clause-begun
-returns-in_err-is_born-clause-begun g c = λ told honest unborn. inl (ap (λ (f : Five (List ℕ)). is_born f.log) (c.is_born.ensures.files told honest) ∙ unborn)
+returns-in_err-is_born-clause-begun g c = λ told honest unborn. on_err _ (inl (ap (λ (f : Five (List ℕ)). is_born f.log) (c.is_born.ensures.files told honest) ∙ unborn))
 
 pub returns-then-branch-clause-begun : goal.returns-then-branch-clause-begun
 returns-then-branch-clause-begun g c = λ told honest unborn.
