@@ -1,5 +1,5 @@
 -- That a new log gives nothing, and so what an unborn one gives.
-use Rattle.std.proofs.Common.{◌≡◌, ℕ, Bool, true, false, cond, List, [], length, Ok, refl, sym, ap, subst, ◌∙◌, inl, inr, arith}
+use Rattle.std.proofs.Common.{◌≡◌, ℕ, Bool, true, false, cond, List, [], ◌∷◌, length, Ok, refl, sym, ap, subst, ◌∙◌, inl, inr, arith}
 use Rattle.hs_host.specs.Files.{Five, with_}
 use Rattle.hs_host.specs.declared.file_kind.FileKind.TheVariants.{Log}
 use Rattle.hs_gate.specs.declared.gated.Gated.{Gated}

@@ -222,7 +222,7 @@ returns-in-Err-clause-alone g c = λ told honest quiet.
 alone_in_run : (g : _) (c : After-serve g) → g.H.Source.tells → IsHonest (g.H.Host.standing c.args.host.now) → disk_of (g.H.Host.history c.args.host.now).now file.Log ≡ settled (g.H.Host.files c.args.host.now).log
     → Since (IsLogAlone (g.H.Host.history c.args.host.now).now) (g.H.Host.history c.args.host.now) (g.H.Host.history c.serve.new.host)
 alone_in_run g c told honest quiet =
-    subst (λ (h : History). Since (IsLogAlone h.now) h (g.H.Host.history c.serve.new.host)) (c.mount.ensures.history told) (c.serve.ensures.alone told (still g c honest) (quiet_mounted g c told honest quiet))
+    subst (λ (h : History). Since (IsLogAlone h.now) h (g.H.Host.history c.serve.new.host)) (c.mount.ensures.history told) (c.serve.ensures.alone told (still g c honest) (quiet_mounted g c told quiet))
 
 pub returns-in-Ok-clause-alone : goal.returns-in-Ok-clause-alone
 returns-in-Ok-clause-alone g c = alone_in_run g (goal.at.returns-in-Ok-clause-alone g c).After-serve
