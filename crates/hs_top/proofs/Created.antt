@@ -1,5 +1,6 @@
 -- That a new log gives nothing, and so what an unborn one gives.
 use Rattle.std.proofs.Common.{◌≡◌, ℕ, Bool, true, false, cond, List, [], ◌∷◌, length, Ok, refl, sym, ap, subst, ◌∙◌, inl, inr, arith}
+use Rattle.std.proofs.lemmas.Bool.Decides.{nat_tests}
 use Rattle.hs_host.specs.Files.{Five, with_}
 use Rattle.hs_host.specs.declared.file_kind.FileKind.TheVariants.{Log}
 use Rattle.hs_gate.specs.declared.gated.Gated.{Gated}
@@ -29,7 +30,7 @@ created_same files old unborn =
     let epoch : epoch_of created ≡ 1 = sym (ap (λ (g : Gated). g.epoch) rest.stands.front.is) in
     let whole : (groups_of created).is_broken ≡ false = rest.stands.whole in
     let none : (groups_of created).payloads ≡ [] = no_texts _ (sym (ap (λ (g : Gated). g.groups) rest.stands.front.is)) in
-    let born : is_born created ≡ true = refl in
+    let born : is_born created ≡ true = grind (arith, nat_tests) in
     let replays : replayed nothing_logged (groups_of created).payloads ≡ Ok nothing_logged = ap (λ (ts : List (List ℕ)). replayed nothing_logged ts) none in
     let gives : opened_of created ≡ Ok nothing_logged = grind (arith, born, opened, epoch, whole, replays) in
     (gives ∙ sym (unborn_gives old unborn), born_texts created born ∙ none ∙ sym (unborn_texts old unborn))
