@@ -13,16 +13,19 @@ rows=${1:-1000000}
 work=$(mktemp -d /dev/shm/hsql-bench.XXXXXX)
 trap 'rm -rf "$work"' EXIT
 
-# rows_of COUNT TABLES: that many INSERTs, in turn over the tables, with different keys in random order.
+# rows_of COUNT TABLES [FIRST]: that many INSERTs, in turn over the tables from T`FIRST` on (default: T0), with different keys in random order.
 rows_of() {
-    awk -v count="$1" -v tables="$2" 'BEGIN {
+    awk -v count="$1" -v tables="$2" -v first="${3:-0}" 'BEGIN {
         for (at = 1; at <= count; at++)
-            printf "a: INSERT INTO T%d VALUES (%d,%d);\n", at % tables, (at * 48271) % 2147483647, -at
+            printf "a: INSERT INTO T%d VALUES (%d,%d);\n", first + at % tables, (at * 48271) % 2147483647, -at
     }'
 }
 
+# tables_of TABLES [FIRST]: that many CREATEs.
 tables_of() {
-    awk -v tables="$1" 'BEGIN { for (at = 0; at < tables; at++) printf "a: CREATE TABLE T%d (N BIGINT, M BIGINT);\n", at }'
+    awk -v tables="$1" -v first="${2:-0}" 'BEGIN {
+        for (at = 0; at < tables; at++) printf "a: CREATE TABLE T%d (N BIGINT, M BIGINT);\n", first + at
+    }'
 }
 
 # run INPUT COMMITS: runs the program on it, and sets `seconds` of the processor and `peak`, in KiB.
@@ -54,6 +57,22 @@ median_run() {
     seconds=$(printf '%s\n' $all | sort -g | sed -n 2p)
 }
 
+# short_runs TABLES: sets `seconds` for that many runs, each over a new database of so many tables with 1,000 rows in all. With 0 tables
+# a run has no entry, and its time is that of the program's start.
+repeats=200
+short_runs() {
+    : >"$work/short"
+    if [ "$1" -gt 0 ]; then
+        { tables_of "$1" 1000; rows_of 1000 "$1" 1000; } >"$work/short"
+    fi
+    local user system TIMEFORMAT='%U %S'
+    read -r user system < <({ time for ((at = 0; at < repeats; at++)); do
+        "$program" "$work/new$at" <"$work/short" >"$work/output"
+    done; } 2>&1)
+    rm -f "$work"/new*
+    seconds=$(reckon "$user + $system" 3)
+}
+
 reckon() { awk "BEGIN { printf \"%.${2:-0}f\", $1 }"; }
 
 "$top/bin/hsql" "$work/bench" </dev/null >/dev/null
@@ -81,12 +100,18 @@ if [ "$peak" -gt 0 ]; then
     echo "with the SELECT, $(reckon "$once_peak * 1024 / $rows") bytes a row at the peak, the program and all else counted"
 fi
 
-# An entry's cost beside 1,000 tables of one row, and beside one table of 1,000 rows.
-more=$((rows / 2))
-{ tables_of 1000; rows_of 1000 1000; rows_of "$more" 1000; } >"$work/many"
-{ tables_of 1; rows_of 1000 1; rows_of "$more" 1; } >"$work/one"
-median_run "$work/many" $((2000 + more))
+# What an entry costs over many tables: whole runs of 2,000 and of 1,001 entries, and long ones whose INSERTs go over the tables in turn.
+# All names have one length, so that the texts have too.
+short_runs 1000
 many=$seconds
-median_run "$work/one" $((1001 + more))
-echo "1,000 tables of one row, then $more INSERTs in turn over them: $(reckon "$many * 1e9 / ($more + 2000)") ns an entry"
-echo "one table of 1,000 rows, then $more INSERTs into it: $(reckon "$seconds * 1e9 / ($more + 1001)") ns an entry"
+short_runs 1
+one=$seconds
+short_runs 0
+echo "1,000 tables of one row: $(reckon "$many * 1e9 / $repeats / 2000") ns an entry, $(reckon "($many - $seconds) * 1e9 / $repeats / 2000") without the start of the program"
+echo "one table of 1,000 rows: $(reckon "$one * 1e9 / $repeats / 1001") ns an entry, $(reckon "($one - $seconds) * 1e9 / $repeats / 1001") without the start of the program"
+more=$((rows / 2))
+for tables in 1 10 100 1000; do
+    { tables_of "$tables" 1000; rows_of "$more" "$tables" 1000; } >"$work/spread"
+    median_run "$work/spread" $((tables + more))
+    echo "$more INSERTs in turn over $tables table(s): $(reckon "$seconds * 1e9 / ($more + $tables)") ns an entry"
+done

@@ -26,7 +26,6 @@ use Rattle.hs_top.specs.declared.reply.Reply.TheVariants.{Done, Refused}
 use Rattle.hs_top.specs.declared.statement.Statement.{Statement}
 use Rattle.hs_top.specs.declared.statement.Statement.TheVariants.{Create, Insert, Select}
 use Rattle.hs_top.specs.declared.table.Table.{Table}
-use Rattle.hs_top.specs.declared.table.TheConstants.{MOST_TABLES}
 use Rattle.hs_top.specs.CommitText.{commit_text}
 use Rattle.hs_top.specs.Database.{Outcome, performed, executed, created, inserted, selected, refused, committed, with_row, table_of, first_repeated, is_among}
 use Rattle.hs_top.specs.Lines.{line, value_text, row_text, rows_lines, count_text, committed_text, text_or_nothing, refusal_text, reply_line, outcome_lines, opened_line, closed_line, no_session}
@@ -322,7 +321,7 @@ module _ (text : List ℕ) (db : Database) where
   created_counts name columns (Some t) repeated = omega arith
   created_counts name columns None (Some c) = omega arith
   created_counts name columns None None =
-      cond_both (nat_le MOST_TABLES (length db.tables)) (refused db NotBuilt) (committed db (db.tables ++ (name, record { columns = columns; rows = [] }) ∷ []) None) Counts (λ _. omega arith) (λ _. refl)
+      cond_both (nat_le 1024 (length db.tables)) (refused db NotBuilt) (committed db (db.tables ++ (name, record { columns = columns; rows = [] }) ∷ []) None) Counts (λ _. omega arith) (λ _. refl)
 
   inserted_counts : (name : List ℕ) (row : List Value) (there : Option Table) → Counts (inserted db name row there)
   inserted_counts name row None = omega arith
@@ -366,7 +365,7 @@ module _ (db : Database) where
   created_fits name columns (Some t) repeated good named = good
   created_fits name columns None (Some c) good named = named
   created_fits name columns None None good named =
-      cond_both (nat_le MOST_TABLES (length db.tables)) (refused db NotBuilt) (committed db (db.tables ++ (name, record { columns = columns; rows = [] }) ∷ []) None) FitsItself (λ _. tt) (λ _. omega arith)
+      cond_both (nat_le 1024 (length db.tables)) (refused db NotBuilt) (committed db (db.tables ++ (name, record { columns = columns; rows = [] }) ∷ []) None) FitsItself (λ _. tt) (λ _. omega arith)
 
   inserted_fits : (name : List ℕ) (row : List Value) (there : Option Table) → IsName name → FitsItself (inserted db name row there)
   inserted_fits name row None good = good

@@ -11,7 +11,6 @@ use Rattle.hs_gate.specs.Groups.{Groups, groups_of, is_born, is_open, epoch_of}
 use Rattle.hs_top.specs.declared.commit_text.Commit.{Commit}
 use Rattle.hs_top.specs.declared.database.Database.{Database}
 use Rattle.hs_top.specs.declared.table.Table.{Table}
-use Rattle.hs_top.specs.declared.table.TheConstants.{MOST_TABLES}
 use Rattle.hs_top.specs.declared.statement.Statement.{Statement}
 use Rattle.hs_top.specs.declared.statement.Statement.TheVariants.{Create, Insert, Select}
 use Rattle.hs_top.specs.declared.refusal.Refusal.TheVariants.{NotBuilt}
@@ -53,7 +52,7 @@ created_same : (db : Database) (name : List ℕ) (columns : List (List ℕ)) (th
 created_same db name columns (Some t) repeated is = refl
 created_same db name columns None (Some c) is = refl
 created_same db name columns None None is =
-    refused_or (nat_le MOST_TABLES (length db.tables)) db (refused db NotBuilt) (committed db (db.tables ++ (name, record { columns = columns; rows = [] }) ∷ []) None) refl refl is
+    refused_or (nat_le 1024 (length db.tables)) db (refused db NotBuilt) (committed db (db.tables ++ (name, record { columns = columns; rows = [] }) ∷ []) None) refl refl is
 
 inserted_same : (db : Database) (name : List ℕ) (row : List Value) (there : Option Table) → is_commit (inserted db name row there).reply ≡ false → (inserted db name row there).database ≡ db
 inserted_same db name row None is = refl
@@ -91,7 +90,7 @@ created_counts : (db : Database) (name : List ℕ) (columns : List (List ℕ)) (
 created_counts db name columns (Some t) repeated is = absurd (cc)
 created_counts db name columns None (Some c) is = absurd (cc)
 created_counts db name columns None None is =
-    counted_if (nat_le MOST_TABLES (length db.tables)) db (refused db NotBuilt) (committed db (db.tables ++ (name, record { columns = columns; rows = [] }) ∷ []) None) refl refl is
+    counted_if (nat_le 1024 (length db.tables)) db (refused db NotBuilt) (committed db (db.tables ++ (name, record { columns = columns; rows = [] }) ∷ []) None) refl refl is
 
 inserted_counts : (db : Database) (name : List ℕ) (row : List Value) (there : Option Table) → is_commit (inserted db name row there).reply ≡ true → (inserted db name row there).database.commits ≡ db.commits + 1
 inserted_counts db name row None is = absurd (cc)

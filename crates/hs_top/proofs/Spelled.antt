@@ -6,7 +6,6 @@ use Rattle.std.proofs.lemmas.Slice.Eq.{bytes_eq-Decides}
 use Rattle.hs_values.specs.declared.value.Value.{Value}
 use Rattle.hs_top.specs.declared.statement.Statement.{Statement}
 use Rattle.hs_top.specs.declared.statement.Statement.TheVariants.{Create, Insert, Select}
-use Rattle.hs_top.specs.declared.statement.TheConstants.{MOST_COLUMNS}
 use Rattle.hs_top.specs.Statement.{◌>>=◌, after, name_of, column_of, value_of, list_from, create_of, insert_of, select_of, statement_of}
 use Rattle.hs_top.specs.Lines.{joined, value_text, row_text}
 use Rattle.hs_top.specs.Spelling.{IsName, IsBigint, IsSpellable, column_text, spelled}
@@ -36,11 +35,11 @@ pub record IsCreated (opening between ending bytes : List ℕ) (s : Statement) :
 
 pub create_spelled : (opening between ending bytes : List ℕ) (s : Statement) → create_of opening between ending bytes ≡ Some s → IsCreated opening between ending bytes s
 create_spelled opening between ending bytes s h =
-    let table = bind_some (name_of bytes) (λ table. after opening table.1 >>= λ rest. list_from column_of between ending [] MOST_COLUMNS rest >>= λ columns. Some (Create table.0 columns)) s h in
-    let rest = bind_some (after opening table.0.1) (λ rest. list_from column_of between ending [] MOST_COLUMNS rest >>= λ columns. Some (Create table.0.0 columns)) s table.2 in
-    let read = bind_some (list_from column_of between ending [] MOST_COLUMNS rest.0) (λ columns. Some (Create table.0.0 columns)) s rest.2 in
+    let table = bind_some (name_of bytes) (λ table. after opening table.1 >>= λ rest. list_from column_of between ending [] 64 rest >>= λ columns. Some (Create table.0 columns)) s h in
+    let rest = bind_some (after opening table.0.1) (λ rest. list_from column_of between ending [] 64 rest >>= λ columns. Some (Create table.0.0 columns)) s table.2 in
+    let read = bind_some (list_from column_of between ending [] 64 rest.0) (λ columns. Some (Create table.0.0 columns)) s rest.2 in
     let named = name_spelled bytes table.0.0 table.0.1 table.1 in
-    let list = list_spelled column_of column_text IsName columns between ending [] read.0 MOST_COLUMNS rest.0 read.1 in
+    let list = list_spelled column_of column_text IsName columns between ending [] read.0 64 rest.0 read.1 in
     record {
       table = table.0.0;
       columns = list.items;
@@ -53,9 +52,9 @@ pub create_back : (opening between ending table : List ℕ) (names : List (List 
     create_of opening between ending (listed table opening (joined column_text between names) ending) ≡ Some (Create table names)
 create_back opening between ending table names ends parts good =
     let list : List ℕ = joined column_text between names ++ ending in
-    bind_is (name_of (table ++ (opening ++ list))) (λ t. after opening t.1 >>= λ rest. list_from column_of between ending [] MOST_COLUMNS rest >>= λ cs. Some (Create t.0 cs)) (table, opening ++ list) (name_back table (opening ++ list) good.0 (ends list))
-    ∙ bind_is (after opening (opening ++ list)) (λ rest. list_from column_of between ending [] MOST_COLUMNS rest >>= λ cs. Some (Create table cs)) list (after_back opening list)
-    ∙ bind_is (list_from column_of between ending [] MOST_COLUMNS list) (λ cs. Some (Create table cs)) names (list_back column_of column_text IsName columns between ending parts [] names MOST_COLUMNS good.1 good.2 good.3)
+    bind_is (name_of (table ++ (opening ++ list))) (λ t. after opening t.1 >>= λ rest. list_from column_of between ending [] 64 rest >>= λ cs. Some (Create t.0 cs)) (table, opening ++ list) (name_back table (opening ++ list) good.0 (ends list))
+    ∙ bind_is (after opening (opening ++ list)) (λ rest. list_from column_of between ending [] 64 rest >>= λ cs. Some (Create table cs)) list (after_back opening list)
+    ∙ bind_is (list_from column_of between ending [] 64 list) (λ cs. Some (Create table cs)) names (list_back column_of column_text IsName columns between ending parts [] names 64 good.1 good.2 good.3)
 
 pub record IsInserted (opening ending bytes : List ℕ) (s : Statement) : Type 0 where
   pub table : List ℕ

@@ -11,7 +11,6 @@ use Rattle.hs_top.specs.declared.refusal.Refusal.TheVariants.{NotBuilt}
 use Rattle.hs_top.specs.declared.statement.Statement.{Statement}
 use Rattle.hs_top.specs.declared.statement.Statement.TheVariants.{Create, Insert, Select}
 use Rattle.hs_top.specs.declared.table.Table.{Table}
-use Rattle.hs_top.specs.declared.table.TheConstants.{MOST_TABLES}
 use Rattle.hs_top.specs.Database.{Outcome, table_of, with_row, executed, created, inserted, selected, refused, committed, first_repeated, named_by}
 use Rattle.hs_top.specs.Entries.{Entries}
 use Rattle.hs_top.specs.Machine.{is_commit}
@@ -66,7 +65,7 @@ module _ (db : Database) (named : List ℕ) (columns : List (List ℕ)) where
   created_others : (there : Option Table) (repeated : Option (List ℕ)) (name : List ℕ) → bytes_eq name named ≡ false → table_of (created db named columns there repeated).database.tables name ≡ table_of db.tables name
   created_others (Some t) repeated name differ = refl
   created_others None (Some c) name differ = refl
-  created_others None None name differ = either (nat_le MOST_TABLES (length db.tables))
+  created_others None None name differ = either (nat_le 1024 (length db.tables))
     where
       either : (b : Bool) → table_of (cond b (refused db NotBuilt) made).database.tables name ≡ table_of db.tables name
       either true = refl
@@ -76,7 +75,7 @@ module _ (db : Database) (named : List ℕ) (columns : List (List ℕ)) where
       → (there ≡ None) × (table_of (created db named columns there repeated).database.tables named ≡ Some empty)
   created_own (Some t) repeated seen is = absurd (cc)
   created_own None (Some c) seen is = absurd (cc)
-  created_own None None seen is = (refl, either (nat_le MOST_TABLES (length db.tables)) is)
+  created_own None None seen is = (refl, either (nat_le 1024 (length db.tables)) is)
     where
       either : (b : Bool) → is_commit (cond b (refused db NotBuilt) made).reply ≡ true → table_of (cond b (refused db NotBuilt) made).database.tables named ≡ Some empty
       either true commits = absurd (cc)

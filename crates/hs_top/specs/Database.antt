@@ -9,7 +9,6 @@ use Rattle.hs_top.specs.declared.statement.Statement.TheVariants.{Create, Insert
 use Rattle.hs_top.specs.declared.table.Table.{Table}
 use Rattle.hs_top.specs.declared.table.Adding.{Adding}
 use Rattle.hs_top.specs.declared.table.Adding.TheVariants.{Added, NoTable, OtherLength}
-use Rattle.hs_top.specs.declared.table.TheConstants.{MOST_TABLES}
 use Rattle.hs_top.specs.declared.database.Database.{Database}
 use Rattle.hs_top.specs.declared.reply.Reply.{Reply}
 use Rattle.hs_top.specs.declared.reply.Reply.TheVariants.{Done, Refused}
@@ -79,7 +78,7 @@ abbrev pub created : Database → List ℕ → List (List ℕ) → Option Table 
 created db name columns (Some there) repeated = refused db (Exists name)
 created db name columns None (Some column) = refused db (Exists column)
 created db name columns None None =
-    if nat_le MOST_TABLES (length db.tables) then refused db NotBuilt
+    if nat_le 1024 (length db.tables) then refused db NotBuilt
     else committed db (db.tables ++ (name, record { columns = columns; rows = [] }) ∷ []) None
 
 abbrev pub inserted : Database → List ℕ → List Value → Option Table → Outcome

@@ -1,7 +1,6 @@
 -- The sessions of a run.
 use Rattle.std.specs.Prelude.{ℕ, ◌+◌, nat_lt, List, [], ◌∷◌, ◌++◌, length, Option, None, Some, if◌then◌else◌}
 use Rattle.std.specs.Str.{bytes_eq}
-use Rattle.hs_top.specs.declared.sessions.TheConstants.{MOST_SESSIONS}
 
 -- the number of a name among others, which are counted from a number on
 abbrev pub number_from : ℕ → List ℕ → List (List ℕ) → Option ℕ
@@ -20,7 +19,7 @@ pub record Admitted : Type 0 where
 -- The session of an entry among those so far, by its name. A new name makes one, as long as there is room.
 abbrev pub made : List ℕ → List (List ℕ) → Option Admitted
 made name sessions =
-    if nat_lt (length sessions) MOST_SESSIONS then Some (record { number = length sessions + 1; sessions = sessions ++ name ∷ [] })
+    if nat_lt (length sessions) 64 then Some (record { number = length sessions + 1; sessions = sessions ++ name ∷ [] })
     else None
 
 abbrev pub admitted : List ℕ → List (List ℕ) → Option Admitted

@@ -6,7 +6,6 @@ use Rattle.hs_values.specs.declared.value.Value.{Value}
 use Rattle.hs_values.specs.declared.value.Value.TheVariants.{Int}
 use Rattle.hs_top.specs.declared.statement.Statement.{Statement}
 use Rattle.hs_top.specs.declared.statement.Statement.TheVariants.{Create, Insert, Select}
-use Rattle.hs_top.specs.declared.statement.TheConstants.{MOST_COLUMNS}
 use Rattle.hs_top.specs.Statement.{is_capital, is_digit}
 use Rattle.hs_top.specs.Lines.{joined, row_text}
 
@@ -22,7 +21,7 @@ IsBigint v = ⊥
 
 -- a statement that has a spelling: with 1 to 64 columns, or a row of at least one value
 abbrev pub IsSpellable : Statement → Type 0
-IsSpellable (Create table columns) = IsName table × (0 < length columns) × (length columns ≤ MOST_COLUMNS) × All IsName columns
+IsSpellable (Create table columns) = IsName table × (0 < length columns) × (length columns ≤ 64) × All IsName columns
 IsSpellable (Insert table row) = IsName table × (0 < length row) × All IsBigint row
 IsSpellable (Select table) = IsName table
 

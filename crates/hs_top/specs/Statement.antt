@@ -7,7 +7,6 @@ use Rattle.hs_values.specs.declared.value.Value.{Value}
 use Rattle.hs_values.specs.declared.value.Value.TheVariants.{Int}
 use Rattle.hs_top.specs.declared.statement.Statement.{Statement}
 use Rattle.hs_top.specs.declared.statement.Statement.TheVariants.{Create, Insert, Select}
-use Rattle.hs_top.specs.declared.statement.TheConstants.{MOST_COLUMNS}
 
 -- what stands behind a prefix
 abbrev pub after : List ℕ → List ℕ → Option (List ℕ)
@@ -82,7 +81,7 @@ list_from one between ending so_far (suc k) bytes =
 abbrev pub create_of : List ℕ → List ℕ → List ℕ → List ℕ → Option Statement
 create_of opening between ending bytes =
     name_of bytes >>= λ table. after opening table.1 >>= λ rest.
-    list_from column_of between ending [] MOST_COLUMNS rest >>= λ columns. Some (Create table.0 columns)
+    list_from column_of between ending [] 64 rest >>= λ columns. Some (Create table.0 columns)
 
 -- a table and the values of a row, as `T VALUES (1,-7);`
 abbrev pub insert_of : List ℕ → List ℕ → List ℕ → Option Statement

@@ -1,5 +1,4 @@
 // The sessions of a run.
-ghost use Rattle.hs_top.specs.declared.sessions.TheConstants.{MOST_SESSIONS};
 ghost use Rattle.std.specs.Prelude.{◌≡◌, ◌≤◌, ◌+◌, [], length, None, IfOk, IfSome};
 ghost use Rattle.std.specs.Option.{option_map};
 ghost use Rattle.hs_top.specs.Sessions.{number_in as number_among};
@@ -16,7 +15,7 @@ pub const MOST_SESSIONS: usize = 64;
 #[derive(Debug, Drop)]
 pub struct Sessions {
     names: Names,
-    ghost few: { length names ≤ MOST_SESSIONS },
+    ghost few: { length names ≤ 64 },
 }
 
 impl Model for Sessions {

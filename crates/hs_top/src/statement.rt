@@ -132,7 +132,7 @@ fn read_columns(
     between: &[u8],
     ending: &[u8],
 ) -> Result<Option<Names>, AllocError>
-    ensures { IfOk result (λ c. c ≡ list_from column_of between.now ending.now [] MOST_COLUMNS text.now) }
+    ensures { IfOk result (λ c. c ≡ list_from column_of between.now ending.now [] 64 text.now) }
 {
     let mut columns = Names::new(alloc);
     let mut rest = text;
