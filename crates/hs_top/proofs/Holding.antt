@@ -1,5 +1,5 @@
 -- What holds of the log and of the output at each moment, from what a call does.
-use Rattle.std.proofs.Common.{◌≡◌, ℕ, ◌+◌, ◌<◌, ◌≤◌, true, false, List, [], ◌∷◌, ◌++◌, length, take, get_or, inl, inr, refl, sym, ap, subst, ◌∙◌, arith, append_assoc, length-append, append-nil, get_or-take}
+use Rattle.std.proofs.Common.{◌≡◌, ◌⊎◌, ℕ, ◌+◌, ◌<◌, ◌≤◌, true, false, List, [], ◌∷◌, ◌++◌, length, take, get_or, inl, inr, refl, sym, ap, subst, ◌∙◌, arith, append_assoc, length-append, append-nil, get_or-take}
 use Rattle.hs_host.specs.declared.file_kind.FileKind.TheVariants.{Log}
 use Rattle.hs_host.specs.Disk.{Pending, Leaves}
 use Rattle.hs_host.specs.Files.{Five, of}
@@ -170,10 +170,6 @@ told_behind before mid m gathered commits all t = record {
       all.lines.told);
 }
 
--- nothing more is told than is gathered
-told_so_far : (before out gathered : List ℕ) (commits : ℕ) → IsGathered before out gathered commits → AcknowledgesBehind before out commits
-told_so_far before out gathered commits all = record { written = all.written; is = all.is; told = fewer all.written gathered commits all.lines.told }
-
 module _ (files : Five (List ℕ)) (h : History) (log : StatementLog) (sound : IsSound log) (is : IsLog files log) (calm : IsCalm h files log.gated) (least : ℕ) (before : List ℕ) (commits : ℕ) (enough : least ≤ length (texts_in files)) (counted : commits ≡ length (texts_in files)) where
   log_disk : disk_of h.now log.gated.file ≡ disk_of h.now Log
   log_disk = ap (disk_of h.now) sound.file
@@ -191,14 +187,14 @@ module _ (files : Five (List ℕ)) (h : History) (log : StatementLog) (sound : I
       (ap (λ (g : Groups). g.is_broken) begins.groups ∙ is.rest.stands.whole)
       enough refl (subst (AcknowledgesBehind before m.out) counted (told_behind before h.now m gathered commits all t))
 
-  -- while a text is logged
-  pub held_logging : (gathered : List ℕ) (texts rest : List (List ℕ)) (m : Moment) → IsGathered before h.now.out gathered commits → IsLogging h.now files.log log.gated.end texts m → IsHeld least (texts_in files ++ (texts ++ rest)) before m
-  held_logging gathered texts rest m all l left leaves =
-      let disk_is : disk_of m Log ≡ l.file.disk = ap (λ (x : Moment). disk_of x Log) l.file.is in
+  -- while a text is logged, and while what was gathered is handed over behind that
+  held_logged : (gathered : List ℕ) (texts rest : List (List ℕ)) (mid m : Moment) → IsGathered before h.now.out gathered commits → IsLogging h.now files.log log.gated.end texts mid → IsPrinted mid gathered m → IsHeld least (texts_in files ++ (texts ++ rest)) before m
+  held_logged gathered texts rest mid m all l t left leaves =
+      let disk_is : disk_of m Log ≡ l.file.disk = ap (λ (d : Five Pending). of d Log) t.disks ∙ ap (λ (x : Moment). disk_of x Log) l.file.is in
       let either = l.file.each left (subst (λ (p : Pending). Leaves p left) disk_is leaves) in
-      let out : m.out ≡ h.now.out = ap (λ (x : Moment). x.out) l.file.is in
+      let out : mid.out ≡ h.now.out = ap (λ (x : Moment). x.out) l.file.is in
       let whole : (groups_of files.log).is_broken ≡ false = subst (λ (bytes : List ℕ). (groups_of bytes).is_broken ≡ false) (ap (of files) sound.file) is.rest.stands.whole in
-      let told = subst (λ (o : List ℕ). AcknowledgesBehind before o (length (texts_in files))) (sym out) (subst (AcknowledgesBehind before h.now.out) counted (told_so_far before h.now.out gathered commits all)) in
+      let told = subst (AcknowledgesBehind before m.out) counted (told_behind before mid m gathered commits (subst (λ (o : List ℕ). IsGathered before o gathered commits) (sym out) all) t) in
       elim either.groups [
         | inl same ↦ holds_of files log sound is least before m.out left (texts_in files) (texts_in files ++ (texts ++ rest)) (texts ++ rest) either.long either.front
             (ap (λ (g : Groups). g.payloads) same) (ap (λ (g : Groups). g.is_broken) same ∙ whole) enough refl told
@@ -214,7 +210,15 @@ module _ (files : Five (List ℕ)) (h : History) (log : StatementLog) (sound : I
       → IsStep h.now (gathered ++ lines) files.log log.gated.end texts m → IsHeld least (texts_in files ++ (texts ++ rest)) before m
   held_step gathered lines texts rest m all quiet (inl told) =
       subst (λ (ts : List (List ℕ)). IsHeld least (texts_in files ++ (ts ++ rest)) before m) (sym told.0) (held_telling (gathered ++ lines) rest m (quiet told.0) told.1)
-  held_step gathered lines texts rest m all quiet (inr logging) = held_logging gathered texts rest m all logging
+  held_step gathered lines texts rest m all quiet (inr logging) = held_logged gathered texts rest m m all logging (told_nothing m gathered)
+
+  -- and while what was gathered is handed over behind a step that wrote nothing
+  pub held_failed : (gathered lines : List ℕ) (texts rest : List (List ℕ)) (mid m : Moment) → IsGathered before h.now.out gathered commits → mid.out ≡ h.now.out
+      → (mid ≡ h.now) ⊎ IsStep h.now (gathered ++ lines) files.log log.gated.end texts mid → IsPrinted mid gathered m → IsHeld least (texts_in files ++ (texts ++ rest)) before m
+  held_failed gathered lines texts rest mid m all out (inl same) t = held_telling gathered (texts ++ rest) m all (subst (λ (x : Moment). IsPrinted x gathered m) same t)
+  held_failed gathered lines texts rest mid m all out (inr (inl told)) t =
+      held_telling gathered (texts ++ rest) m all (record { disks = t.disks ∙ told.1.disks; piece = t.piece; rest = t.rest; out = t.out ∙ ap (λ (l : List ℕ). l ++ t.piece) out; whole = t.whole })
+  held_failed gathered lines texts rest mid m all out (inr (inr logging)) t = held_logged gathered texts rest mid m all logging t
 
 -- when the log is open, and nothing is gathered yet
 pub held_opened : (files : Five (List ℕ)) (h : History) (log : StatementLog) → IsSound log → IsLog files log → IsCalm h files log.gated → (before : List ℕ) (rest : List (List ℕ)) → h.now.out ≡ before

@@ -53,3 +53,8 @@ split_front {A} (x ∷ all) behind (f ∷ front) rest is long =
     let more : all ++ behind ≡ front ++ rest = cc in
     let parts = split_front all behind front rest more (omega (arith, long)) in
     (parts.0, (ap (λ (y : A). y ∷ all) first ∙ ap (λ (l : List A). f ∷ l) parts.1.0, parts.1.1))
+
+-- a prefix of what was gathered, where nothing was written or gathered since
+pub front_so_far : (old mid new gathered piece more : List ℕ) → mid ≡ old → piece ≡ gathered → WritesPrefix mid new piece → WritesPrefix old new (gathered ++ more)
+front_so_far old mid new gathered piece more same is front =
+    front_on old mid new piece more (gathered ++ more) (ap (λ (l : List ℕ). l ++ (piece ++ more)) same ∙ ap (λ (l : List ℕ). old ++ (l ++ more)) is) (omega (arith, ap length same)) front

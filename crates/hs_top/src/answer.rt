@@ -17,7 +17,7 @@ ghost use Rattle.hs_top.specs.Running.{state_of, texts_in, OnlyLog, HasRoom, IsL
 
 use crate::commit_text::write_commit;
 use crate::database::{Database, sorted};
-use crate::flush::flush_when_large;
+use crate::flush::{flush, flush_when_large};
 use crate::output::Output;
 use crate::refusal::Refusal;
 use crate::reply::Reply;
@@ -64,9 +64,32 @@ pub fn answer<H: Host>(
     ensures input_faults { H.input_faults host.new ≡ H.input_faults host.old }
     ensures standing { H.standing host.new ≡ H.standing host.old }
 {
-    perform(alloc, item, work, output, host)?;
-    flush_when_large(output, host)?;
-    Ok(())
+    match perform(alloc, item, work, output, host) {
+        Ok(()) => {
+            flush_when_large(output, host)?;
+            Ok(())
+        }
+        Err(Status::DiskFault) => {
+            hand_over(output, host);
+            Err(Status::DiskFault)
+        }
+        Err(status) => Err(status),
+    }
+}
+
+// Hands over what is gathered before a run ends, as far as the host takes it.
+#[tactic(auto, using(crate::proofs::Prefixes::nothing_yet, hs_host::proofs::Passing::since_none))]
+fn hand_over<H: Host>(output: &mut Output, host: &mut H)
+    ensures front { H.tells → WritesPrefix (H.written host.old) (H.written host.new) output.old }
+    ensures moments { H.tells → Since (IsPrinted (H.history host.old).now output.old) (H.history host.old) (H.history host.new) }
+    ensures output_later { H.output_faults host.old ≤ H.output_faults host.new }
+    ensures unread { H.unread host.new ≡ H.unread host.old }
+    ensures input_faults { H.input_faults host.new ≡ H.input_faults host.old }
+    ensures files { H.files host.new ≡ H.files host.old }
+    ensures standing { H.standing host.new ≡ H.standing host.old }
+    ensures disk_faults { H.disk_faults host.new ≡ H.disk_faults host.old }
+{
+    let _ = flush(output, host);
 }
 
 // Does what an item asks for, and gathers its lines.
@@ -88,6 +111,7 @@ fn perform<H: Host>(
     ensures others { H.tells → IsHonest (H.standing host.old) → OnlyLog (H.files host.old) (H.files host.new) }
     ensures done { H.tells → OnOk result (H.written host.new ++ output.new ≡ H.written host.old ++ (output.old ++ (step_of item (state_of work.old)).lines)) }
     ensures front { H.tells → WritesPrefix (H.written host.old) (H.written host.new) (output.old ++ (step_of item (state_of work.old)).lines) }
+    ensures unsaid { IsErrOf result Status.DiskFault → (output.new ≡ output.old) × (H.written host.new ≡ H.written host.old) }
     ensures output_fault { IsErrOf result Status.OutputFault → Rose (H.output_faults host.old) (H.output_faults host.new) }
     ensures moments { H.tells → IsHonest (H.standing host.old) → IsCalm (H.history host.old) (H.files host.old) work.old.log.gated → Since (IsStep (H.history host.old).now (output.old ++ (step_of item (state_of work.old)).lines) (H.files host.old).log work.old.log.gated.end (step_of item (state_of work.old)).texts) (H.history host.old) (H.history host.new) }
     ensures calm { H.tells → IsHonest (H.standing host.old) → IsCalm (H.history host.old) (H.files host.old) work.old.log.gated → OnOk result (IsCalm (H.history host.new) (H.files host.new) work.new.log.gated) }
@@ -140,6 +164,7 @@ fn enter<H: Host>(
     ensures others { H.tells → IsHonest (H.standing host.old) → OnlyLog (H.files host.old) (H.files host.new) }
     ensures done { H.tells → OnOk result (H.written host.new ++ output.new ≡ H.written host.old ++ (output.old ++ (step_of (Item.Entry number name.now text.now 0) (state_of work.old)).lines)) }
     ensures front { H.tells → WritesPrefix (H.written host.old) (H.written host.new) (output.old ++ (step_of (Item.Entry number name.now text.now 0) (state_of work.old)).lines) }
+    ensures unsaid { IsErrOf result Status.DiskFault → (output.new ≡ output.old) × (H.written host.new ≡ H.written host.old) }
     ensures output_fault { IsErrOf result Status.OutputFault → Rose (H.output_faults host.old) (H.output_faults host.new) }
     ensures moments { H.tells → IsHonest (H.standing host.old) → IsCalm (H.history host.old) (H.files host.old) work.old.log.gated → Since (IsStep (H.history host.old).now (output.old ++ (step_of (Item.Entry number name.now text.now 0) (state_of work.old)).lines) (H.files host.old).log work.old.log.gated.end (step_of (Item.Entry number name.now text.now 0) (state_of work.old)).texts) (H.history host.old) (H.history host.new) }
     ensures calm { H.tells → IsHonest (H.standing host.old) → IsCalm (H.history host.old) (H.files host.old) work.old.log.gated → OnOk result (IsCalm (H.history host.new) (H.files host.new) work.new.log.gated) }
@@ -198,6 +223,7 @@ fn execute<H: Host>(
     ensures others { H.tells → IsHonest (H.standing host.old) → OnlyLog (H.files host.old) (H.files host.new) }
     ensures done { H.tells → OnOk result (H.written host.new ++ output.new ≡ H.written host.old ++ (output.old ++ outcome_lines number name.now (performed database.old statement))) }
     ensures front { H.tells → WritesPrefix (H.written host.old) (H.written host.new) (output.old ++ outcome_lines number name.now (performed database.old statement)) }
+    ensures unsaid { IsErrOf result Status.DiskFault → (output.new ≡ output.old) × (H.written host.new ≡ H.written host.old) }
     ensures output_fault { IsErrOf result Status.OutputFault → Rose (H.output_faults host.old) (H.output_faults host.new) }
     ensures moments { H.tells → IsHonest (H.standing host.old) → IsCalm (H.history host.old) (H.files host.old) log.old.gated → Since (IsStep (H.history host.old).now (output.old ++ outcome_lines number name.now (performed database.old statement)) (H.files host.old).log log.old.gated.end (logged log.old.last session statement (performed database.old statement).reply)) (H.history host.old) (H.history host.new) }
     ensures calm { H.tells → IsHonest (H.standing host.old) → IsCalm (H.history host.old) (H.files host.old) log.old.gated → OnOk result (IsCalm (H.history host.new) (H.files host.new) log.new.gated) }
@@ -262,6 +288,7 @@ fn change<H: Host>(
     ensures others { H.tells → IsHonest (H.standing host.old) → OnlyLog (H.files host.old) (H.files host.new) }
     ensures done { H.tells → OnOk result (H.written host.new ++ output.new ≡ H.written host.old ++ (output.old ++ outcome_lines number name.now (executed database.old statement))) }
     ensures front { H.tells → WritesPrefix (H.written host.old) (H.written host.new) (output.old ++ outcome_lines number name.now (executed database.old statement)) }
+    ensures unsaid { IsErrOf result Status.DiskFault → (output.new ≡ output.old) × (H.written host.new ≡ H.written host.old) }
     ensures output_fault { IsErrOf result Status.OutputFault → Rose (H.output_faults host.old) (H.output_faults host.new) }
     ensures moments { H.tells → IsHonest (H.standing host.old) → IsCalm (H.history host.old) (H.files host.old) log.old.gated → Since (IsLogging (H.history host.old).now (H.files host.old).log log.old.gated.end (logged log.old.last session (Some statement) (executed database.old statement).reply)) (H.history host.old) (H.history host.new) }
     ensures calm { H.tells → IsHonest (H.standing host.old) → IsCalm (H.history host.old) (H.files host.old) log.old.gated → OnOk result (IsCalm (H.history host.new) (H.files host.new) log.new.gated) }

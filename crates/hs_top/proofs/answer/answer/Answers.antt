@@ -1,17 +1,18 @@
-use Rattle.std.proofs.Common.{◌≡◌, ℕ, List, ◌++◌, length, sym, ap, subst, ◌∙◌, arith, append_assoc}
+use Rattle.std.proofs.Common.{◌≡◌, ℕ, List, ◌++◌, length, sym, ap, subst, ◌∙◌, arith, append_assoc, Err}
 use Rattle.hs_host.specs.Files.{IsHonest}
-use Rattle.hs_host.specs.Moments.{Since}
-use Rattle.hs_host.proofs.Passing.{since_weaker, since_join}
+use Rattle.hs_host.specs.Moments.{Since, IsPrinted}
+use Rattle.hs_host.proofs.Passing.{since_weaker, since_join, since_now}
 use Rattle.hs_gate.specs.Crash.{IsCalm}
 use Rattle.hs_top.specs.Holding.{IsHeld, IsGathered, IsAcknowledging}
 use Rattle.hs_top.specs.Machine.{step_of}
 use Rattle.hs_top.specs.Running.{state_of, texts_in}
 use Rattle.hs_top.specs.Acknowledged.{IsNamed}
 use Rattle.hs_top.proofs.Alone.{alone_stepping, alone_printing, alone_on}
-use Rattle.hs_top.proofs.Holding.{calm_told, gathered_step, held_step, held_telling, telling_step, telling_handed}
+use Rattle.hs_top.proofs.Holding.{calm_told, gathered_step, held_failed, held_step, held_telling, telling_step, telling_handed}
 use Rattle.hs_top.proofs.Acknowledged.{one_text}
+use Rattle.hs_top.proofs.Prefixes.{front_so_far}
 use Rattle.hs_top.proofs.answer.answer.Goals as goal
-use Rattle.hs_top.proofs.answer.answer.Goals.{After-perform, After-flush_when_large}
+use Rattle.hs_top.proofs.answer.answer.Goals.{After-perform, After-flush_when_large, After-hand_over}
 
 -- the moments until the item is done
 done : (g : _) (c : After-perform g) → g.H.Source.tells → IsHonest (g.H.Host.standing c.args.host.now) → IsCalm (g.H.Host.history c.args.host.now) (g.H.Host.files c.args.host.now) c.args.work.now.log.gated → IsNamed c.args.item
@@ -35,14 +36,14 @@ left : (g : _) (c : After-flush_when_large g) → g.H.Source.tells → IsHonest 
     → IsAcknowledging least before (g.H.Host.files c.perform.new.host) (g.H.Host.written c.perform.new.host) c.perform.new.output c.perform.new.work.database.commits
 left g c told honest named least before t =
     telling_step least before (g.H.Host.files c.args.host.now) (g.H.Host.files c.perform.new.host) (g.H.Host.written c.args.host.now) (g.H.Host.written c.perform.new.host) c.args.output.now c.perform.new.output c.args.item (state_of c.args.work.now) (state_of c.perform.new.work) named
-    c.in_ok-perform.ensures.state (c.in_ok-perform.ensures.texts told honest) (c.in_ok-perform.ensures.done told) (c.perform.ensures.front told).grown t
+    c.in-Ok.ensures.state (c.in-Ok.ensures.texts told honest) (c.in-Ok.ensures.done told) (c.perform.ensures.front told).grown t
 
 -- with the moments while output is handed over
 handed : (g : _) (c : After-flush_when_large g) → g.H.Source.tells → IsHonest (g.H.Host.standing c.args.host.now) → IsCalm (g.H.Host.history c.args.host.now) (g.H.Host.files c.args.host.now) c.args.work.now.log.gated → IsNamed c.args.item
     → (least : ℕ) (before : List ℕ) (rest : List (List ℕ)) → IsAcknowledging least before (g.H.Host.files c.args.host.now) (g.H.Host.written c.args.host.now) c.args.output.now c.args.work.now.database.commits
     → Since (IsHeld least (texts_in (g.H.Host.files c.args.host.now) ++ ((step_of c.args.item (state_of c.args.work.now)).texts ++ rest)) before) (g.H.Host.history c.args.host.now) (g.H.Host.history c.flush_when_large.new.host)
 handed g c told honest calm named least before rest t =
-    let ok = c.in_ok-perform.ensures in
+    let ok = c.in-Ok.ensures in
     let after = left g c told honest named least before t in
     let out = sym (g.met.H.Host.output_now c.perform.new.host told) in
     let all = subst (λ (o : List ℕ). IsGathered before o c.perform.new.output c.perform.new.work.database.commits) out after.gathered in
@@ -54,32 +55,62 @@ handed g c told honest calm named least before rest t =
     (held_telling (g.H.Host.files c.perform.new.host) (g.H.Host.history c.perform.new.host) c.perform.new.work.log ok.sane.sound (ok.logged told honest) (ok.calm told honest calm) least before c.perform.new.work.database.commits after.enough after.counted
     c.perform.new.output rest m all telling)))
 
-pub returns-in_err-perform-clause-moments : goal.returns-in_err-perform-clause-moments
-returns-in_err-perform-clause-moments g c = done g (goal.at.returns-in_err-perform-clause-moments g c).After-perform
+-- and while what was gathered is handed over where the disk failed
+failed : (g : _) (c : After-hand_over g) → g.H.Source.tells → IsHonest (g.H.Host.standing c.args.host.now) → IsCalm (g.H.Host.history c.args.host.now) (g.H.Host.files c.args.host.now) c.args.work.now.log.gated → IsNamed c.args.item
+    → (least : ℕ) (before : List ℕ) (rest : List (List ℕ)) → IsAcknowledging least before (g.H.Host.files c.args.host.now) (g.H.Host.written c.args.host.now) c.args.output.now c.args.work.now.database.commits
+    → Since (IsHeld least (texts_in (g.H.Host.files c.args.host.now) ++ ((step_of c.args.item (state_of c.args.work.now)).texts ++ rest)) before) (g.H.Host.history c.args.host.now) (g.H.Host.history c.hand_over.new.host)
+failed g c told honest calm named least before rest t =
+    let step = step_of c.args.item (state_of c.args.work.now) in
+    let unsaid = c.in-Err-DiskFault.ensures.unsaid (ap Err c.in-Err-DiskFault.field-0-is) in
+    let out = g.met.H.Host.output_now c.args.host.now told in
+    let all = subst (λ (o : List ℕ). IsGathered before o c.args.output.now c.args.work.now.database.commits) (sym out) t.gathered in
+    since_join (done g (goal.at.After-hand_over g c).After-perform told honest calm named least before rest t)
+    (since_weaker (c.hand_over.ensures.moments told)
+    (λ m printed. held_failed (g.H.Host.files c.args.host.now) (g.H.Host.history c.args.host.now) c.args.work.now.log c.requires.whole.sound (c.requires.logged told honest) calm least before c.args.work.now.database.commits t.enough t.counted
+    c.args.output.now step.lines step.texts rest (g.H.Host.history c.perform.new.host).now m all
+    (g.met.H.Host.output_now c.perform.new.host told ∙ unsaid.1 ∙ sym out)
+    (since_now (c.perform.ensures.moments told honest calm))
+    (subst (λ (l : List ℕ). IsPrinted (g.H.Host.history c.perform.new.host).now l m) unsaid.0 printed)))
 
-pub returns-in_err-flush_when_large-clause-moments : goal.returns-in_err-flush_when_large-clause-moments
-returns-in_err-flush_when_large-clause-moments g c = handed g (goal.at.returns-in_err-flush_when_large-clause-moments g c).After-flush_when_large
+pub returns-in-Err-clause-moments : goal.returns-in-Err-clause-moments
+returns-in-Err-clause-moments g c = done g (goal.at.returns-in-Err-clause-moments g c).After-perform
 
-pub returns-clause-moments : goal.returns-clause-moments
-returns-clause-moments g c = handed g (goal.at.returns-clause-moments g c).After-flush_when_large
+pub returns-in_err-flush_when_large-in-Ok-clause-moments : goal.returns-in_err-flush_when_large-in-Ok-clause-moments
+returns-in_err-flush_when_large-in-Ok-clause-moments g c = handed g (goal.at.returns-in_err-flush_when_large-in-Ok-clause-moments g c).After-flush_when_large
 
-pub returns-clause-calm : goal.returns-clause-calm
-returns-clause-calm g c = λ told honest calm.
-    calm_told (g.H.Host.files c.perform.new.host) (g.H.Host.files c.flush_when_large.new.host) c.perform.new.work.log.gated (c.flush_when_large.ensures.moments told) c.flush_when_large.ensures.files (c.in_ok-perform.ensures.calm told honest calm)
+pub returns-in_ok-flush_when_large-in-Ok-clause-moments : goal.returns-in_ok-flush_when_large-in-Ok-clause-moments
+returns-in_ok-flush_when_large-in-Ok-clause-moments g c = handed g (goal.at.returns-in_ok-flush_when_large-in-Ok-clause-moments g c).After-flush_when_large
 
-pub returns-clause-telling : goal.returns-clause-telling
-returns-clause-telling g c = λ told honest named least before t.
+pub returns-in_ok-flush_when_large-in-Ok-clause-calm : goal.returns-in_ok-flush_when_large-in-Ok-clause-calm
+returns-in_ok-flush_when_large-in-Ok-clause-calm g c = λ told honest calm.
+    calm_told (g.H.Host.files c.perform.new.host) (g.H.Host.files c.flush_when_large.new.host) c.perform.new.work.log.gated (c.flush_when_large.ensures.moments told) c.flush_when_large.ensures.files (c.in-Ok.ensures.calm told honest calm)
+
+pub returns-in_ok-flush_when_large-in-Ok-clause-telling : goal.returns-in_ok-flush_when_large-in-Ok-clause-telling
+returns-in_ok-flush_when_large-in-Ok-clause-telling g c = λ told honest named least before t.
     telling_handed least before (g.H.Host.files c.perform.new.host) (g.H.Host.files c.flush_when_large.new.host) (g.H.Host.written c.perform.new.host) (g.H.Host.written c.flush_when_large.new.host) c.perform.new.output c.flush_when_large.new.output c.perform.new.work.database.commits
-    c.flush_when_large.ensures.files (c.in_ok-flush_when_large.ensures.done told) (c.flush_when_large.ensures.front told).grown
-    (left g (goal.at.returns-clause-telling g c).After-flush_when_large told honest named least before t)
+    c.flush_when_large.ensures.files (c.in_ok-flush_when_large-in-Ok.ensures.done told) (c.flush_when_large.ensures.front told).grown
+    (left g (goal.at.returns-in_ok-flush_when_large-in-Ok-clause-telling g c).After-flush_when_large told honest named least before t)
 
-pub returns-in_err-perform-clause-alone : goal.returns-in_err-perform-clause-alone
-returns-in_err-perform-clause-alone g c = λ told honest calm. alone_stepping (c.perform.ensures.moments told honest calm)
+pub returns-in-Err-clause-alone : goal.returns-in-Err-clause-alone
+returns-in-Err-clause-alone g c = λ told honest calm. alone_stepping (c.perform.ensures.moments told honest calm)
 
-pub returns-in_err-flush_when_large-clause-alone : goal.returns-in_err-flush_when_large-clause-alone
-returns-in_err-flush_when_large-clause-alone g c = λ told honest calm.
+pub returns-in_err-flush_when_large-in-Ok-clause-alone : goal.returns-in_err-flush_when_large-in-Ok-clause-alone
+returns-in_err-flush_when_large-in-Ok-clause-alone g c = λ told honest calm.
     alone_on (alone_stepping (c.perform.ensures.moments told honest calm)) (alone_printing (c.flush_when_large.ensures.moments told))
 
-pub returns-clause-alone : goal.returns-clause-alone
-returns-clause-alone g c = λ told honest calm.
+pub returns-in_ok-flush_when_large-in-Ok-clause-alone : goal.returns-in_ok-flush_when_large-in-Ok-clause-alone
+returns-in_ok-flush_when_large-in-Ok-clause-alone g c = λ told honest calm.
     alone_on (alone_stepping (c.perform.ensures.moments told honest calm)) (alone_printing (c.flush_when_large.ensures.moments told))
+
+pub returns-in-Err-DiskFault-clause-front : goal.returns-in-Err-DiskFault-clause-front
+returns-in-Err-DiskFault-clause-front g c = λ told.
+    let unsaid = c.in-Err-DiskFault.ensures.unsaid (ap Err c.in-Err-DiskFault.field-0-is) in
+    front_so_far (g.H.Host.written c.args.host.now) (g.H.Host.written c.perform.new.host) (g.H.Host.written c.hand_over.new.host) c.args.output.now c.perform.new.output (step_of c.args.item (state_of c.args.work.now)).lines
+    unsaid.1 unsaid.0 (c.hand_over.ensures.front told)
+
+pub returns-in-Err-DiskFault-clause-moments : goal.returns-in-Err-DiskFault-clause-moments
+returns-in-Err-DiskFault-clause-moments g c = failed g (goal.at.returns-in-Err-DiskFault-clause-moments g c).After-hand_over
+
+pub returns-in-Err-DiskFault-clause-alone : goal.returns-in-Err-DiskFault-clause-alone
+returns-in-Err-DiskFault-clause-alone g c = λ told honest calm.
+    alone_on (alone_stepping (c.perform.ensures.moments told honest calm)) (alone_printing (c.hand_over.ensures.moments told))
