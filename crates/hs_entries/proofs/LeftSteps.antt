@@ -171,8 +171,8 @@ long_on n p xs room input h =
       room = refl;
     }
 
--- and so is one to which a byte comes that makes it too long
-pub long_next : (n : ℕ) (p : Place) (xs : List ℕ) (room : ℕ) (input : List ℕ) → length xs ≡ MOST_BYTES → 0 < length input
+-- and so is one that a byte that comes makes too long, if it isn't so yet
+pub long_next : (n : ℕ) (p : Place) (xs : List ℕ) (room : ℕ) (input : List ℕ) → MOST_BYTES ≤ length xs → 0 < length input
     → Continues (left_at n p xs room input) (left_at n p long room input)
 long_next n p xs room [] h some = absurd (omega arith)
 long_next n p xs room (z ∷ zs) h some =
@@ -257,15 +257,15 @@ cut_shrinks p too_long n before now some all = go (is_entry p) refl too_long
     go false h w = rw h all
 
 -- a window has looked at all bytes, and the input ends
-pub cut_at_end_step : (n m : ℕ) (w after : Window) → IsSound w → left_of w ≡ [] → length (begun_of w) ≤ MOST_BYTES
+pub cut_at_end_step : (n m : ℕ) (w after : Window) (too_long : Bool) → IsSound w → left_of w ≡ [] → is_too_long (begun_of w) ≡ too_long
     → ahead_of after ≡ [] → room_of after ≡ w.room
-    → Takes (left_at n Between [] (room_of w) (ahead_of w ++ [])) (cut_at w.place false n) (left_at m Between [] (room_of after) (ahead_of after ++ []))
-cut_at_end_step n m w after sound looked short ahead_is room_is =
+    → Takes (left_at n Between [] (room_of w) (ahead_of w ++ [])) (cut_at w.place too_long n) (left_at m Between [] (room_of after) (ahead_of after ++ []))
+cut_at_end_step n m w after too_long sound looked is ahead_is room_is =
     let at_end : left_of w ++ [] ≡ [] = append-nil (left_of w) ∙ looked in
     let left_over : ahead_of after ++ [] ≡ [] = append-nil (ahead_of after) ∙ ahead_is in
-    continues_takes _ (left_at n w.place (begun_of w) w.room (left_of w ++ [])) _ (cut_at w.place false n) (window_on n w [] sound)
-    (takes_at n m w.place (begun_of w) (left_of w ++ []) [] (ahead_of after ++ []) [] w.room (room_of after) w.room (cut_at w.place false n) (cut_at w.place false n)
-    at_end left_over room_is refl (cut_step n m w.place (begun_of w) w.room false (too_long_false (begun_of w) short)))
+    continues_takes _ (left_at n w.place (begun_of w) w.room (left_of w ++ [])) _ (cut_at w.place too_long n) (window_on n w [] sound)
+    (takes_at n m w.place (begun_of w) (left_of w ++ []) [] (ahead_of after ++ []) [] w.room (room_of after) w.room (cut_at w.place too_long n) (cut_at w.place too_long n)
+    at_end left_over room_is refl (cut_step n m w.place (begun_of w) w.room too_long is))
 
 pub passed_some : (w : Window) → IsSound w → is_entry w.place ≡ true → w.room < room_of w
 passed_some w sound entry =
@@ -363,19 +363,19 @@ pub continues_same : (n n' : ℕ) (p : Place) (begun : List ℕ) (room room' : �
 continues_same n n' p begun room room' input input' n_is room_is input_is =
     rw (n_is, room_is, input_is) (record { items = refl; whole = refl; room = refl })
 
--- an entry or a comment of which no further byte can be kept, and to which a byte comes
-pub long_start : (n n' : ℕ) (w : Window) (unread input : List ℕ) (k : ℕ) → IsSound w → length (begun_of w) ≡ MOST_BYTES → input ≡ left_of w ++ unread
+-- an entry or a comment of which no further byte is kept, and to which a byte comes
+pub long_start : (n n' : ℕ) (w : Window) (unread input : List ℕ) (k : ℕ) → IsSound w → MOST_BYTES ≤ length (begun_of w) → input ≡ left_of w ++ unread
     → 0 < length input → n' ≡ n → k ≡ w.room → Continues (left_at n Between [] (room_of w) (ahead_of w ++ unread)) (left_at n' w.place long k input)
 long_start n n' w unread input k sound full input_is some n_is k_is =
     let on = long_next n w.place (begun_of w) w.room (left_of w ++ unread) full (rw (← input_is) some) in
     rw (n_is, k_is, input_is) (continues_trans _ _ _ (window_on n w unread sound) on)
 
 -- and one to which none comes
-pub long_cut : (n m : ℕ) (w after : Window) (unread : List ℕ) → IsSound w → left_of w ≡ [] → length (begun_of w) ≤ MOST_BYTES → unread ≡ [] → ahead_of after ≡ []
-    → room_of after ≡ w.room
-    → Takes (left_at n Between [] (room_of w) (ahead_of w ++ unread)) (cut_at w.place false n) (left_at m Between [] (room_of after) (ahead_of after ++ unread))
-long_cut n m w after unread sound looked short unread_is ahead_is room_is =
-    rw unread_is (cut_at_end_step n m w after sound looked short ahead_is room_is)
+pub long_cut : (n m : ℕ) (w after : Window) (unread : List ℕ) (too_long : Bool) → IsSound w → left_of w ≡ [] → is_too_long (begun_of w) ≡ too_long → unread ≡ []
+    → ahead_of after ≡ [] → room_of after ≡ w.room
+    → Takes (left_at n Between [] (room_of w) (ahead_of w ++ unread)) (cut_at w.place too_long n) (left_at m Between [] (room_of after) (ahead_of after ++ unread))
+long_cut n m w after unread too_long sound looked is unread_is ahead_is room_is =
+    rw unread_is (cut_at_end_step n m w after too_long sound looked is ahead_is room_is)
 
 -- what holds of a step holds of it behind another
 pub none_on : (a b c : Left) (result : Result (Option Item) InputFault) → Continues a b → IfOk result (λ item. IfNone item (Continues b c))

@@ -2,7 +2,6 @@
 use Rattle.std.specs.Prelude.{◌≡◌, ℕ, ◌+◌, ◌-◌, ◌^◌, ◌<◌, ◌≤◌, true, List, Some, length, slice_range, slice_index}
 use Rattle.hs_entries.specs.declared.window.Window.{Window}
 use Rattle.hs_entries.specs.declared.place.Place.TheVariants.{Between}
-use Rattle.hs_entries.specs.declared.item.TheConstants.{MOST_BYTES}
 use Rattle.hs_entries.specs.Place.{leads, passes, ends}
 
 -- the bytes that are skipped
@@ -30,7 +29,7 @@ pub record IsSound (w : Window) : Type 0 where
   pub begun : w.first ≤ w.at
   pub left : w.at ≤ w.end
   pub end : w.end ≤ length w.buffer.items
-  pub size : 0 < length w.buffer.items → length w.buffer.items ≡ MOST_BYTES
+  pub size : 0 < length w.buffer.items → length w.buffer.items ≡ 131072
   pub room : room_of w < 2 ^ 64
   pub skips : passes Between (skipped_of w) ≡ Some Between
   pub leads : leads Between (begun_of w) ≡ Some w.place

@@ -3,8 +3,8 @@
 //! The input is a text of entries such as `a: COMMIT;`. What its items are is a function of its bytes
 //! alone (`specs/Items.antt`): white space and comments before an entry are skipped, and an entry runs to
 //! the first `;` that stands outside a text, a quoted name and a comment. The reader finds them in a
-//! buffer of 64 KiB, asks for input only where it needs a byte and has none left, and uses no more bytes
-//! than its limit.
+//! buffer of 128 KiB, asks for input only where it needs a byte and has none left, for 64 KiB at least at
+//! once, and uses no more bytes than its limit.
 #![tactic(auto)]
 
 mod entry;

@@ -219,10 +219,10 @@ impl EntryReader {
         self.cut_item(place, false)
     }
 
-    // Goes to the end of an entry, or of a comment between two entries, of which no further byte can be kept.
+    // Goes to the end of an entry, or of a comment between two entries, of which no further byte is kept.
     fn skip_long<S: Source>(&mut self, source: &mut S) -> Result<Option<Item>, InputFault>
         requires looked { left_of self.old.window ≡ [] }
-        requires full { length (begun_of self.old.window) ≡ MOST_BYTES }
+        requires full { MOST_BYTES ≤ length (begun_of self.old.window) }
         ensures none { S.tells → IfOk result (λ item. IfNone item (Continues (left self.old (S.unread source.old)) (left self.new (S.unread source.new)))) }
         ensures some { S.tells → IfOk result (λ item. IfSome item (λ i. Takes (left self.old (S.unread source.old)) i (left self.new (S.unread source.new)))) }
         ensures number { IfOk result (λ item. MatchOption item (next_number self.new ≡ next_number self.old) (λ i. IsNumbered i (next_number self.old) (next_number self.new))) }
@@ -237,11 +237,12 @@ impl EntryReader {
         ensures only { S.only_input source.old source.new }
     {
         let place = self.window.place();
+        let is_too_long = self.window.is_too_long();
         self.window.use_to(0);
         if self.refill(source)? {
             self.skip_from(place, source)
         } else {
-            Ok(Some(self.cut_item(place, false)))
+            Ok(Some(self.cut_item(place, is_too_long)))
         }
     }
 

@@ -143,7 +143,7 @@ static CASES: [(u64, &[u8], &str); 106] = [
 ];
 
 // Longer inputs: a front, a byte that is repeated, and what stands behind, with the answers.
-static LONG_CASES: [(&[u8], u8, usize, &[u8], &str); 14] = [
+static LONG_CASES: [(&[u8], u8, usize, &[u8], &str); 24] = [
     (b"a:", b'x', 65_533, b";b:;", "1:a@2:#65534|2:b@2:;|end"),
     (b"a:", b'x', 65_534, b";b:;", "1:long|2:b@2:;|end"),
     (b" a:", b'x', 65_533, b";b:;", "1:a@2:#65534|2:b@2:;|end"),
@@ -158,6 +158,17 @@ static LONG_CASES: [(&[u8], u8, usize, &[u8], &str); 14] = [
     (b"--", b';', 200_000, b"", "end"),
     (b"/*", b';', 65_534, b"", "1:bad|end"),
     (b"/*", b';', 65_535, b"", "1:long|end"),
+    // as many bytes as are at hand at most, and one more
+    (b"a:", b'x', 131_069, b";b:;", "1:long|2:b@2:;|end"),
+    (b"a:", b'x', 131_070, b";b:;", "1:long|2:b@2:;|end"),
+    (b" a:", b'x', 131_069, b";b:;", "1:long|2:b@2:;|end"),
+    (b"a:", b'x', 131_070, b"", "1:long|end"),
+    (b"a:", b'x', 131_071, b"", "1:long|end"),
+    (b"/*", b';', 131_070, b"", "1:long|end"),
+    (b"/*", b';', 131_068, b"*/b:;", "1:b@2:;|end"),
+    (b"/*", b';', 131_069, b"*/b:;", "1:b@2:;|end"),
+    (b"--", b';', 131_070, b"", "end"),
+    (b"--", b';', 131_069, b"\nb:;", "1:b@2:;|end"),
 ];
 
 // A host that gives its input in pieces of this length.
@@ -263,7 +274,7 @@ fn reads_items(rt: HostRuntime) -> Result<(), Fail> {
         }
     }
     for (front, byte, count, back, want) in &LONG_CASES {
-        for piece in [100_000, 4_096, 777] {
+        for piece in [1_000_000, 100_000, 65_536, 65_535, 4_096, 777] {
             let input = long_input(alloc, front, *byte, *count, back)?;
             let mut source = host(alloc, input, CallList::new(alloc), piece)?;
             let got = answers(alloc, 1_000_000, &mut source)?;
@@ -292,5 +303,23 @@ fn asks_only_for_what_it_needs(rt: HostRuntime) -> Result<(), Fail> {
         assert!(rt; reader.is_ready());
         assert_eq!(rt; source.calls(), 8);
     }
+    Ok(())
+}
+
+#[test]
+fn asks_for_64_kib_at_once(rt: HostRuntime) -> Result<(), Fail> {
+    let alloc = rt.alloc();
+    let mut input = long_input(alloc, b"a:", b'x', 65_533, b";")?;
+    let second = long_input(alloc, b"b:", b'y', 65_533, b";")?;
+    input.extend_from_slice(&second)?;
+    let mut source = host(alloc, input, CallList::new(alloc), 1)?;
+    source.give_in_pieces(Vec::from_slice(alloc, &[65_535, 65_536])?);
+    let mut reader = EntryReader::new(alloc, 1_000_000);
+
+    // All but the last byte of the first entry is begun, and the second read brings all but that of the second.
+    assert!(rt; matches!(reader.next(&mut source), Ok(Item::Entry { number: 1, .. })));
+    assert_eq!(rt; source.calls(), 2);
+    assert!(rt; matches!(reader.next(&mut source), Ok(Item::Entry { number: 2, .. })));
+    assert_eq!(rt; source.calls(), 3);
     Ok(())
 }

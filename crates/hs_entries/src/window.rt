@@ -2,12 +2,17 @@
 ghost use Rattle.std.specs.Prelude.{◌≡◌, ◌↔◌, ◌⊎◌, ◌+◌, ◌-◌, ◌<◌, ◌≤◌, false, [], ◌∷◌, ◌++◌, length, take, drop, slice_index, Some, IfOk, OnOk, OnErr, IsErrOf, IsTrue};
 ghost use Rattle.hs_host.specs.Host.{Rose};
 ghost use Rattle.hs_entries.specs.Place.{leads, ends, next_place};
+ghost use Rattle.hs_entries.specs.Entry.{is_too_long as too_long};
 
 use crate::input_fault::InputFault;
 use crate::item::MOST_BYTES;
 use crate::place::{Place, scan};
 use hs_host::Source;
 use std::alloc::{AllocError, Global};
+
+// How many bytes are at hand at most: as many as an entry has at most, and as many as one read asks for at
+// least.
+const BUFFER_BYTES: usize = 131_072;
 
 /// What comes next behind the bytes that were looked at.
 #[derive(Clone, Copy, Debug, PartialEq, Eq)]
@@ -65,12 +70,20 @@ impl Window {
         self.place
     }
 
-    /// Whether an entry or a comment is begun of which no further byte can be kept.
+    /// Whether an entry or a comment is begun of which no further byte is kept.
     pub fn is_full(&self) -> bool
         requires sound { IsSound self.now }
-        ensures { IsTrue result ↔ (length (begun_of self.now) ≡ MOST_BYTES) }
+        ensures { IsTrue result ↔ (MOST_BYTES ≤ length (begun_of self.now)) }
     {
-        self.at - self.first == MOST_BYTES
+        self.at - self.first >= MOST_BYTES
+    }
+
+    /// Whether more bytes are begun than an entry has at most.
+    pub fn is_too_long(&self) -> bool
+        requires sound { IsSound self.now }
+        ensures { result ≡ too_long (begun_of self.now) }
+    {
+        self.at - self.first > MOST_BYTES
     }
 
     /// Whether bytes are at hand that weren't looked at.
@@ -188,8 +201,8 @@ impl Window {
         self.place = Place::Between;
     }
 
-    /// Drops what is skipped, and reads more bytes behind what is begun, by one read at most. Answers whether any
-    /// came, and none comes only at the end of the input.
+    /// Drops what is skipped, and reads more bytes behind what is begun, by one read at most, which asks for 64 KiB
+    /// at least. Answers whether any came, and none comes only at the end of the input.
     pub fn refill<S: Source>(&mut self, source: &mut S) -> Result<bool, InputFault>
         requires sound { IsSound self.old }
         requires kept { length (begun_of self.old) < MOST_BYTES }
@@ -212,6 +225,7 @@ impl Window {
         ensures only { S.only_input source.old source.new }
     {
         self.make_room()?;
+        prove!(self.buffer.len() - self.end >= MOST_BYTES);
         let count = source.read_input(&mut self.buffer[self.end..])?;
         self.end += count;
         Ok(count > 0)
@@ -221,7 +235,7 @@ impl Window {
     fn make_room(&mut self) -> Result<(), AllocError>
         requires sound { IsSound self.old }
         ensures sound { IsSound self.new }
-        ensures size { OnOk result (length self.new.buffer.items ≡ MOST_BYTES) }
+        ensures size { OnOk result (length self.new.buffer.items ≡ BUFFER_BYTES) }
         ensures start { OnOk result ((self.new.start ≡ 0) × (self.new.first ≡ 0)) }
         ensures end { OnOk result ((self.new.at ≡ self.old.at - self.old.first) × (self.new.end ≡ self.old.end - self.old.first)) }
         ensures begun { OnOk result (begun_of self.new ≡ begun_of self.old) }
@@ -243,7 +257,7 @@ impl Window {
 
 // Memory for the bytes at hand.
 fn new_buffer(alloc: Global) -> Result<Vec<u8>, AllocError>
-    ensures { IfOk result (λ buffer. length buffer.items ≡ MOST_BYTES) }
+    ensures { IfOk result (λ buffer. length buffer.items ≡ BUFFER_BYTES) }
 {
-    vec![in alloc; 0; MOST_BYTES]
+    vec![in alloc; 0; BUFFER_BYTES]
 }

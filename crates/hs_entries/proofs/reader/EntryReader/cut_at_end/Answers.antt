@@ -1,7 +1,7 @@
 use Rattle.std.proofs.Common.{◌≡◌, ◌∙◌, ◌+◌, false, ap, sym, arith}
-use Rattle.hs_entries.specs.Window.{ahead_of, room_of}
+use Rattle.hs_entries.specs.Window.{ahead_of, room_of, begun_of}
 use Rattle.hs_entries.specs.Place.{is_entry}
-use Rattle.hs_entries.proofs.LeftSteps.{cut_at_end_step, cut_shrinks, passed_some, fresh_room}
+use Rattle.hs_entries.proofs.LeftSteps.{too_long_false, cut_at_end_step, cut_shrinks, passed_some, fresh_room}
 use Rattle.hs_entries.proofs.reader.EntryReader.cut_at_end.Goals as goal
 
 pub cut_item-requires : goal.cut_item-requires
@@ -16,7 +16,7 @@ returns-clause-takes c =
     let r = c.args.self.now in
     let after = c.cut_item.new.self in
     let fresh = fresh_room c.use_to.new.self c.use_to.ensures.fresh in
-    rw (c.cut_item.ensures.item, c.place-place.ensures) (cut_at_end_step (r.count + 1) (after.count + 1) r.window after.window r.sound c.requires.looked c.requires.short
+    rw (c.cut_item.ensures.item, c.place-place.ensures) (cut_at_end_step (r.count + 1) (after.count + 1) r.window after.window false r.sound c.requires.looked (too_long_false (begun_of r.window) c.requires.short)
     (ap ahead_of c.cut_item.ensures.window ∙ c.use_to.ensures.ahead ∙ c.requires.looked)
     (ap room_of c.cut_item.ensures.window ∙ omega (arith, c.use_to.ensures.room)))
 

@@ -1,6 +1,5 @@
-use Rattle.std.proofs.Common.{◌≡◌, ◌∙◌, ◌+◌, ◌≤◌, ◌++◌, ℕ, [], List, length, length-append, ap, sym, arith}
-use Rattle.hs_entries.specs.declared.item.TheConstants.{MOST_BYTES}
-use Rattle.hs_entries.specs.Window.{ahead_of, left_of, room_of, begun_of}
+use Rattle.std.proofs.Common.{◌≡◌, ◌∙◌, ◌+◌, ◌++◌, ℕ, [], List, length-append, ap, sym, arith}
+use Rattle.hs_entries.specs.Window.{ahead_of, left_of, room_of}
 use Rattle.hs_entries.specs.Left.{Continues}
 use Rattle.hs_entries.specs.Asking.{NeedsMore}
 use Rattle.hs_entries.proofs.Asking.{looked_needs, asks_once, asks_at_most_once, gathers_once, gathers_then_asked, asked_err}
@@ -49,13 +48,13 @@ returns-else-branch-clause-some g c = λ told.
     let left_over : ahead after ≡ [] = fresh_ahead after.window (read.fresh fresh) ∙ read.none c.if-branch.false in
     let nothing : before ≡ [] =
     ap (λ (l : List ℕ). l ++ before) (sym (c.use_to.ensures.ahead ∙ c.requires.looked)) ∙ sym (read.bytes told fresh) ∙ ap (λ (l : List ℕ). l ++ unread) left_over ∙ end in
-    let short : length (begun_of r.window) ≤ MOST_BYTES = omega (arith, c.requires.full) in
     let ahead_is = ap ahead_of c.cut_item.ensures.window ∙ left_over in
     let room_is : room c.cut_item.new.self ≡ r.window.room =
     ap room_of c.cut_item.ensures.window ∙ read.fresh_room fresh ∙ fresh_room used fresh ∙ omega (arith, c.use_to.ensures.room) in
     let count : after.count + 1 ≡ r.count + 1 = let same = read.count in omega arith in
     rw (c.cut_item.ensures.item, c.place-place.ensures, count, end ∙ sym nothing)
-    (long_cut (r.count + 1) (c.cut_item.new.self.count + 1) r.window c.cut_item.new.self.window before r.sound c.requires.looked short nothing ahead_is room_is)
+    (long_cut (r.count + 1) (c.cut_item.new.self.count + 1) r.window c.cut_item.new.self.window before c.is_too_long-is_too_long.result r.sound c.requires.looked
+    (sym c.is_too_long-is_too_long.ensures) nothing ahead_is room_is)
 
 pub returns-in_err-refill-clause-asked : goal.returns-in_err-refill-clause-asked
 returns-in_err-refill-clause-asked g c =
