@@ -139,12 +139,21 @@ fn limits(rt: HostRuntime) -> Result<(), Fail> {
     let run = shown(alloc, input.as_bytes(), 100_000, b"", &[])?;
     assert_eq!(rt; run.text.as_slice(), wanted.as_bytes());
 
-    let mut long = vec![in alloc; b'x'; 65_536]?;
-    long.push(b';')?;
-    long.extend_from_slice(b"a: SELECT * FROM T;")?;
-    let run = shown(alloc, &long, 100_000, b"", &[])?;
-    let wanted = "opened at 0/1 -: refused too long/2 a: refused no such T/closed at 0/";
-    assert_eq!(rt; run.text.as_slice(), wanted.as_bytes());
+    let long: [(&[u8], usize, &str); 4] = [
+        (b"", 65_535, "1 -: refused entry"),
+        (b"", 65_536, "1 -: refused too long"),
+        (b"a:", 65_533, "1 a: refused not built"),
+        (b"a:", 65_534, "1 -: refused too long"),
+    ];
+    for (front, count, line) in long {
+        let mut input = front.to_vec(alloc)?;
+        let filling = vec![in alloc; b'x'; count]?;
+        input.extend_from_slice(&filling)?;
+        input.extend_from_slice(b";a: SELECT * FROM T;")?;
+        let run = shown(alloc, &input, 100_000, b"", &[])?;
+        let wanted = format!(in alloc; "opened at 0/{line}/2 a: refused no such T/closed at 0/")?;
+        assert_eq!(rt; run.text.as_slice(), wanted.as_bytes());
+    }
 
     let mut input = String::new(alloc);
     let mut wanted = String::from_str(alloc, "opened at 0/")?;

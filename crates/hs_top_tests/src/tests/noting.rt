@@ -1,4 +1,4 @@
-// The order of a run's calls: what is written and synced before what, by a host that notes them.
+// The order of a run's calls, and how much each read and each hand-over is of, by a host that notes them.
 ghost use Rattle.std.specs.Prelude.{◌≡◌};
 
 use crate::tests::support::{host, words};
@@ -8,12 +8,16 @@ use hs_top::{Status, run};
 use std::alloc::Global;
 use std::test::Fail;
 
-// A host that notes its calls, and how much was written before each read.
+// This many bytes of output are gathered at most, and of input a read may bring at least.
+const FULL: usize = 65_536;
+
+// A host that notes its calls, how much was written before each read, and how much the read may bring.
 #[derive(Drop)]
 struct Noting {
     inner: MemHost,
     calls: Vec<u8>,
     before_reads: Vec<usize>,
+    read_sizes: Vec<usize>,
 }
 
 impl Noting {
@@ -26,6 +30,7 @@ impl Noting {
             inner,
             calls: Vec::new(alloc),
             before_reads: Vec::new(alloc),
+            read_sizes: Vec::new(alloc),
         }
     }
 
@@ -65,6 +70,9 @@ impl Source for Noting {
         if self.before_reads.push(written).is_err() {
             return Err(HostFault::NoMemory);
         }
+        if self.read_sizes.push(buf.len()).is_err() {
+            return Err(HostFault::NoMemory);
+        }
         self.inner.read_input(buf)
     }
 }
@@ -99,7 +107,7 @@ impl Host for Noting {
     ghost reading_keeps_files = { λ a b read. (ap (λ k. k.files) read, ap (λ k. k.standing) read, ap (λ k. k.disk_faults) read) };
 
     fn write_output(&mut self, bytes: &[u8]) -> Result<usize, HostFault> {
-        self.note(b'o')?;
+        self.note(if bytes.len() < FULL { b'o' } else { b'O' })?;
         self.inner.write_output(bytes)
     }
 
@@ -164,5 +172,66 @@ fn commits_are_on_the_disk_before_they_are_acknowledged(rt: HostRuntime) -> Resu
     assert_eq!(rt; run(alloc, &words, &mut host), Status::Done);
     let wanted = b"mlwcswsoiwswswswsoio";
     assert_eq!(rt; host.calls.as_slice(), wanted.as_slice());
+    Ok(())
+}
+
+// Also in the middle of an entry a read may bring 64 KiB.
+#[test]
+fn reads_may_bring_64_kib(rt: HostRuntime) -> Result<(), Fail> {
+    let alloc = rt.alloc();
+    let words = words(alloc, &["hsql", "demo"])?;
+    let mut input = b"a: SELECT * FROM T;a:".to_vec(alloc)?;
+    let filling = vec![in alloc; b'x'; 65_533]?;
+    input.extend_from_slice(&filling)?;
+    input.extend_from_slice(b";a: SELECT * FROM T;")?;
+    let mut inner = host(alloc, &input, b"", &[])?;
+    inner.give_in_pieces([7, 20_000].to_vec(alloc)?);
+    let mut host = Noting::new(alloc, inner);
+    assert_eq!(rt; run(alloc, &words, &mut host), Status::Done);
+    let wanted =
+        b"opened at 0\n1 a: refused no such T\n2 a: refused not built\n3 a: refused no such T\nclosed at 0\n";
+    assert_eq!(rt; host.inner.output(), wanted.as_slice());
+    for size in &host.read_sizes {
+        assert!(rt; *size >= FULL, "a read may bring {size} bytes");
+    }
+    Ok(())
+}
+
+// Replies and the rows of an answer are handed over once they are 64 KiB; less is handed over only before a read
+// and at the end.
+#[test]
+fn long_output_is_handed_over_in_parts(rt: HostRuntime) -> Result<(), Fail> {
+    let alloc = rt.alloc();
+    let words = words(alloc, &["hsql", "demo"])?;
+    let mut input = String::from_str(alloc, "a: CREATE TABLE T (N BIGINT, M BIGINT);")?;
+    let mut wanted = String::from_str(alloc, "opened at 0\n1 a: ok committed 1\n")?;
+    let mut rows = String::new(alloc);
+    for number in 2..4002u32 {
+        let entry = format!(in alloc; "a: INSERT INTO T VALUES ({number},1000000000000000000);")?;
+        input.push_str(entry.as_str())?;
+        wanted.push_str(format!(in alloc; "{number} a: ok 1 row committed {number}\n")?.as_str())?;
+        let row = format!(in alloc; "4002 a: row {number},1000000000000000000\n")?;
+        rows.push_str(row.as_str())?;
+    }
+    input.push_str("a: SELECT * FROM T;")?;
+    wanted.push_str(rows.as_str())?;
+    wanted.push_str("4002 a: ok 4000 rows\nclosed at 4001\n")?;
+    let mut host = Noting::new(alloc, host(alloc, input.as_bytes(), b"", &[])?);
+    assert_eq!(rt; run(alloc, &words, &mut host), Status::Done);
+    assert!(rt; host.inner.output() == wanted.as_bytes());
+
+    let mut parts = 0u32;
+    let mut last = b'm';
+    for call in &host.calls {
+        assert!(rt; last != b'o' || *call == b'i');
+        parts = match *call {
+            b'O' => parts.saturating_add(1),
+            b's' => 0,
+            _ => parts,
+        };
+        last = *call;
+    }
+    // Behind the last commit, so of the answer.
+    assert!(rt; parts >= 2);
     Ok(())
 }
