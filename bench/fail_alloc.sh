@@ -3,9 +3,9 @@
 #
 # usage: bench/fail_alloc.sh
 #
-# A run whose allocation is refused must end with status 5 and a prefix of the example's output, and the log that
-# it leaves must open at a commit, and not before an acknowledged one. Past the last allocation the run ends
-# with status 0 and the whole output, and the loop stops. It needs a C compiler, since the allocations are
+# A run whose allocation is refused must end with status 5, `hsql: out of memory` on standard error and a prefix of the
+# example's output, and the log that it leaves must open at a commit, and not before an acknowledged one. Past the last
+# allocation the run ends with status 0, nothing on standard error and the whole output, and the loop stops. It needs a C compiler, since the allocations are
 # refused by a library that is loaded before the C library's. A single one can be refused, before any proof,
 # by `rt try --fail-alloc NUMBER`. This is no part of the gate.
 set -eu
@@ -31,10 +31,12 @@ for ((number = 1; number < 1000; number++)); do
     cmp -s <(head -c "$size" "$top/examples/first.out") "$work/output" || fail "the output is no prefix of the expected one"
     if [ "$status" = 0 ]; then
         cmp -s "$top/examples/first.out" "$work/output" || fail "the output isn't whole"
-        echo "$((number - 1)) allocations were refused in turn: each run ended with status 5 and a prefix of the output, $prefixes of them not empty"
+        [ ! -s "$work/errors" ] || fail "standard error has '$(cat "$work/errors")'"
+        echo "$((number - 1)) allocations were refused in turn: each run ended with status 5, its message and a prefix of the output, $prefixes of them not empty"
         exit 0
     fi
     [ "$status" = 5 ] || fail "the status is $status"
+    cmp -s <(echo "hsql: out of memory") "$work/errors" || fail "standard error has '$(cat "$work/errors")'"
     [ "$size" = 0 ] || prefixes=$((prefixes + 1))
     "$program" "$work/db" </dev/null >"$work/again" || fail "the log that is left isn't opened"
     opened=$(sed -n '1s/opened at //p' "$work/again")
