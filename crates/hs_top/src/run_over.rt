@@ -40,9 +40,9 @@ const MOST_INPUT: u64 = 1 << 30;
 /// transcript was written, the log's groups are the texts of all commits, and the next run begins with the database with which
 /// this one ended. Over a damaged log nothing is written and no file is changed, whatever the status is.
 ///
-/// A crash at any moment of the run leaves a log with which the next run begins after some number of this one's
-/// turns, by the commits of these turns, and with all commits that were acknowledged by then. Only while a log is first made
-/// may it leave another. At a status that says that the log was open, the moment at which the run ends is such a moment
+/// Where the log was whole and all on the disk at the call, a crash at any moment of the run leaves a log with which the next
+/// run begins after some number of this one's turns, by the commits of these turns, and with all commits that were acknowledged by
+/// then. Only while a log is first made may it leave another. At a status that says that the log was open, the moment at which the run ends is such a moment
 /// too. A log that wasn't born still isn't where the run ended while it was made, or it is whole. On the disk no other
 /// file is touched.
 #[tactic(auto, using(crate::proofs::Prefixes::nothing_yet, crate::proofs::Safe::not_opened))]
