@@ -19,11 +19,13 @@ use Rattle.hs_top.specs.Crash.{AcknowledgesBehind}
 use Rattle.hs_top.specs.Holding.{Holds, IsHeld, IsGathered, IsAcknowledging, IsLogging, IsStep}
 use Rattle.hs_top.specs.Running.{IsLog, IsSound, texts_in}
 use Rattle.hs_entries.specs.declared.item.Item.{Item}
-use Rattle.hs_top.specs.Lines.{opened_line, closed_line}
+use Rattle.hs_machine.specs.Lines.{OpenedAt, ClosedAt, printed_line, printed}
 use Rattle.hs_top.specs.Machine.{State, step_of}
-use Rattle.hs_top.specs.Acknowledged.{AcknowledgesAtMost, AcknowledgesLines, IsNamed}
+use Rattle.hs_machine.specs.Acknowledged.{AcknowledgesAtMost, AcknowledgesLines}
+use Rattle.hs_machine.proofs.Acknowledged.{tells_nothing, fewer, more}
+use Rattle.hs_top.specs.Acknowledged.{IsNamed}
 use Rattle.hs_top.proofs.Prefixes.{split_front}
-use Rattle.hs_top.proofs.Acknowledged.{tells_nothing, fewer, more, opened_tells, closed_tells, step_tells, one_text}
+use Rattle.hs_top.proofs.Acknowledged.{opened_tells, closed_tells, step_tells, one_text}
 
 -- what is told behind what was handed over before is told of the whole
 pub told_through : (before mid m : Moment) (gathered rest whole : List ℕ) → mid.disks ≡ before.disks → mid.out ++ (gathered ++ rest) ≡ before.out ++ whole → length before.out ≤ length mid.out
@@ -70,16 +72,16 @@ gathered_on before old new whole gathered commits is grown all =
 
 -- with the lines of a step
 pub gathered_step : (before out gathered : List ℕ) (item : Item) (s : State) → IsNamed item → IsGathered before out gathered s.database.commits
-    → IsGathered before out (gathered ++ (step_of item s).lines) (step_of item s).next.database.commits
+    → IsGathered before out (gathered ++ printed (step_of item s).lines) (step_of item s).next.database.commits
 gathered_step before out gathered item s named all = record {
   written = all.written;
   is = all.is;
-  lines = subst (λ (l : List ℕ). AcknowledgesLines l (step_of item s).next.database.commits) (append_assoc all.written gathered (step_of item s).lines) (step_tells item s named (all.written ++ gathered) all.lines);
+  lines = subst (λ (l : List ℕ). AcknowledgesLines l (step_of item s).next.database.commits) (append_assoc all.written gathered (printed (step_of item s).lines)) (step_tells item s named (all.written ++ gathered) all.lines);
 }
 
 -- so it is counted and told where a step is done
 pub telling_step : (least : ℕ) (before : List ℕ) (old new : Five (List ℕ)) (out new_out gathered new_gathered : List ℕ) (item : Item) (s next : State) → IsNamed item → next ≡ (step_of item s).next
-    → texts_in new ≡ texts_in old ++ (step_of item s).texts → new_out ++ new_gathered ≡ out ++ (gathered ++ (step_of item s).lines) → length out ≤ length new_out
+    → texts_in new ≡ texts_in old ++ (step_of item s).texts → new_out ++ new_gathered ≡ out ++ (gathered ++ printed (step_of item s).lines) → length out ≤ length new_out
     → IsAcknowledging least before old out gathered s.database.commits → IsAcknowledging least before new new_out new_gathered next.database.commits
 telling_step least before old new out new_out gathered new_gathered item s next named done texts whole grown t =
     let commits : next.database.commits ≡ (step_of item s).next.database.commits = ap (λ (n : State). n.database.commits) done in
@@ -88,7 +90,7 @@ telling_step least before old new out new_out gathered new_gathered item s next 
       enough = omega (arith, t.enough, ap length texts, count);
       counted = omega (arith, commits, one_text item s, t.counted, ap length texts, count);
       gathered = subst (IsGathered before new_out new_gathered) (sym commits)
-          (gathered_on before out new_out (gathered ++ (step_of item s).lines) new_gathered (step_of item s).next.database.commits whole grown (gathered_step before out gathered item s named t.gathered));
+          (gathered_on before out new_out (gathered ++ printed (step_of item s).lines) new_gathered (step_of item s).next.database.commits whole grown (gathered_step before out gathered item s named t.gathered));
     }
 
 -- and where output is handed over
@@ -101,7 +103,7 @@ telling_handed least before old new out new_out gathered new_gathered commits sa
 }
 
 -- the first line tells of nothing
-pub first_gathered : (out gathered : List ℕ) (opened commits : ℕ) → gathered ≡ opened_line opened → IsGathered out out gathered commits
+pub first_gathered : (out gathered : List ℕ) (opened commits : ℕ) → gathered ≡ printed_line (OpenedAt opened) → IsGathered out out gathered commits
 first_gathered out gathered opened commits is = record {
   written = [];
   is = sym (append-nil out);
@@ -109,11 +111,11 @@ first_gathered out gathered opened commits is = record {
 }
 
 -- and so does the last one
-pub last_gathered : (before out old new : List ℕ) (closed commits : ℕ) → new ≡ old ++ closed_line closed → IsGathered before out old commits → IsGathered before out new commits
+pub last_gathered : (before out old new : List ℕ) (closed commits : ℕ) → new ≡ old ++ printed_line (ClosedAt closed) → IsGathered before out old commits → IsGathered before out new commits
 last_gathered before out old new closed commits is all = record {
   written = all.written;
   is = all.is;
-  lines = subst (λ (l : List ℕ). AcknowledgesLines l commits) (append_assoc all.written old (closed_line closed) ∙ ap (λ (l : List ℕ). all.written ++ l) (sym is)) (closed_tells (all.written ++ old) commits closed all.lines);
+  lines = subst (λ (l : List ℕ). AcknowledgesLines l commits) (append_assoc all.written old (printed_line (ClosedAt closed)) ∙ ap (λ (l : List ℕ). all.written ++ l) (sym is)) (closed_tells (all.written ++ old) commits closed all.lines);
 }
 
 -- telling leaves the log calm

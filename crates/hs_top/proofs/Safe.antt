@@ -8,20 +8,22 @@ use Rattle.hs_host.specs.declared.file_kind.FileKind.TheVariants.{Log}
 use Rattle.hs_host.specs.Disk.{Pending, Leaves, settled}
 use Rattle.hs_host.specs.Moments.{Moment, History, Since, disk_of}
 use Rattle.hs_host.proofs.Passing.{since_none, since_now}
-use Rattle.hs_top.specs.declared.reply.Reply.{Reply}
+use Rattle.hs_machine.specs.declared.reply.Reply.{Reply}
+use Rattle.hs_machine.specs.Machine.{after, whole}
+use Rattle.hs_machine.specs.Replies.{is_commit}
 use Rattle.hs_top.specs.declared.status.Status.{Status}
 use Rattle.hs_top.specs.declared.statement.Statement.{Statement}
 use Rattle.hs_top.specs.Crash.{Survives, IsSafe, IsSafeFromOpening, HasLog, GivesSame, IsOpening, AcknowledgesBehind, opened_after}
 use Rattle.hs_top.specs.Database.{performed}
 use Rattle.hs_top.specs.Holding.{Holds, IsHeld}
 use Rattle.hs_top.specs.CommitText.{commit_text}
-use Rattle.hs_top.specs.Machine.{State, machine, step_of, entered, logged, is_commit, turn, steps, texts, texts_of}
+use Rattle.hs_top.specs.Machine.{State, machine, step_of, entered, logged, turn, steps, texts, texts_of}
 use Rattle.hs_top.specs.Opening.{Opened, nothing_logged, replayed, opened_of, texts_at, texts_from, begun_with}
 use Rattle.hs_top.specs.Running.{has_opened}
 use Rattle.hs_top.specs.Sessions.{Admitted, admitted}
 use Rattle.hs_top.specs.Statement.{statement_of}
 use Rattle.hs_top.proofs.Prefixes.{split_front}
-use Rattle.hs_top.proofs.Acknowledged.{tells_nothing}
+use Rattle.hs_machine.proofs.Acknowledged.{tells_nothing}
 use Rattle.hs_top.proofs.Reopened.{replayed_on, old_gives, last_session, after_turns_remade, commits_of_texts}
 
 -- a step logs one text or none
@@ -52,7 +54,7 @@ few_texts End s = inl refl
 
 -- a prefix of the texts of a run are the texts of its first turns
 pub front_of_texts : (items : List Item) (s : State) (front rest : List (List ℕ)) → front ++ rest ≡ texts_of (machine items s) → (n : ℕ) × (front ≡ texts n (machine items s))
-unfolding texts_of texts turn IsFew
+unfolding after whole turn IsFew
 front_of_texts [] s [] rest is = (0, refl)
 front_of_texts [] s (t ∷ front) rest is = absurd (cc)
 front_of_texts (item ∷ items) s [] rest is = (0, refl)
@@ -115,7 +117,7 @@ held_same old opened before out log is held =
 
 -- a log that gives what the old one gives, while nothing is told
 pub same_survives : (old : List ℕ) (opened : Opened) (input before out log : List ℕ) → opened_of old ≡ Ok opened → out ≡ before → GivesSame old log → Survives old opened input before out log
-unfolding steps texts
+unfolding after
 same_survives old opened input before out log is told same = record {
   turns = 0;
   reopens = same.0 ∙ is;

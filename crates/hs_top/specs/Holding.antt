@@ -8,7 +8,7 @@ use Rattle.hs_host.specs.Moments.{Moment, OneFile, IsPrinted, disk_of}
 use Rattle.hs_host.specs.declared.file_kind.FileKind.TheVariants.{Log}
 use Rattle.hs_top.specs.Crash.{AcknowledgesBehind}
 use Rattle.hs_top.specs.Running.{texts_in}
-use Rattle.hs_top.specs.Acknowledged.{AcknowledgesLines}
+use Rattle.hs_machine.specs.Acknowledged.{AcknowledgesLines}
 
 -- A log has so many commits at least, their texts are a prefix of these, and no later commit was acknowledged.
 pub record Holds (least : ℕ) (all : List (List ℕ)) (before out log : List ℕ) : Type 0 where

@@ -13,7 +13,7 @@ use Rattle.hs_top.specs.declared.statement_log.StatementLog.{StatementLog}
 use Rattle.hs_top.specs.declared.status.Status.{Status}
 use Rattle.hs_top.specs.declared.status.Status.TheVariants.{Done, Usage, InputFault, OutputFault, DiskFault, NoMemory, Damaged, InputTooLong}
 use Rattle.hs_top.specs.declared.work.Work.{Work}
-use Rattle.hs_top.specs.Machine.{State, Machine, machine}
+use Rattle.hs_top.specs.Machine.{State, Position, machine}
 
 -- the texts of the commits in a log
 abbrev pub texts_in : Five (List ℕ) → List (List ℕ)
@@ -46,11 +46,11 @@ pub record IsWhole (w : Work) : Type 0 where
   pub room : HasRoom w.database.commits w.log
 
 -- the machine with all items that are left, the host having so much left
-abbrev pub machine_of : Running → List ℕ → Machine
+abbrev pub machine_of : Running → List ℕ → Position
 machine_of r unread = machine (left_items r.reader unread) (state_of r.work)
 
 -- the machine with those that are whole within the limit
-abbrev pub machine_within : Running → List ℕ → Machine
+abbrev pub machine_within : Running → List ℕ → Position
 machine_within r unread = machine (left_whole r.reader unread) (state_of r.work)
 
 -- the input goes past the limit

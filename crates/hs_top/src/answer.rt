@@ -11,7 +11,9 @@ ghost use Rattle.hs_top.specs.declared.statement.Statement.{Statement};
 ghost use Rattle.hs_top.specs.Statement.{statement_of};
 ghost use Rattle.hs_top.specs.Database.{performed, executed};
 ghost use Rattle.hs_top.specs.CommitText.{IsChange};
-ghost use Rattle.hs_top.specs.Lines.{rows_lines, reply_line, answer_lines, outcome_lines};
+ghost use Rattle.hs_machine.specs.Lines.{printed};
+ghost use Rattle.hs_machine.specs.Replies.{rows_lines, reply_lines};
+ghost use Rattle.hs_top.specs.Answers.{answer_lines};
 ghost use Rattle.hs_top.specs.Machine.{WritesPrefix, step_of, entered, logged, last_after, if_commit, commits_after};
 ghost use Rattle.hs_top.specs.Running.{state_of, texts_in, OnlyLog, HasRoom, IsLog, IsSound, IsWhole, is_damaged};
 
@@ -19,8 +21,6 @@ use crate::commit_text::write_commit;
 use crate::database::{Database, sorted};
 use crate::flush::{flush, flush_when_large};
 use crate::output::Output;
-use crate::refusal::Refusal;
-use crate::reply::Reply;
 use crate::statement::{Statement, read_statement};
 use crate::statement_log::StatementLog;
 use crate::status::Status;
@@ -28,6 +28,7 @@ use crate::table::Table;
 use crate::work::Work;
 use hs_entries::Item;
 use hs_host::Host;
+use hs_machine::{Refusal, Reply};
 use hs_values::{Bytes, Chars, Name, Row};
 use std::alloc::Global;
 
@@ -48,8 +49,8 @@ pub fn answer<H: Host>(
     ensures logged { H.tells → IsHonest (H.standing host.old) → OnOk result (IsLog (H.files host.new) work.new.log) }
     ensures texts { H.tells → IsHonest (H.standing host.old) → OnOk result (texts_in (H.files host.new) ≡ texts_in (H.files host.old) ++ (step_of item (state_of work.old)).texts) }
     ensures others { H.tells → IsHonest (H.standing host.old) → OnlyLog (H.files host.old) (H.files host.new) }
-    ensures done { H.tells → OnOk result (H.written host.new ++ output.new ≡ H.written host.old ++ (output.old ++ (step_of item (state_of work.old)).lines)) }
-    ensures front { H.tells → WritesPrefix (H.written host.old) (H.written host.new) (output.old ++ (step_of item (state_of work.old)).lines) }
+    ensures done { H.tells → OnOk result (H.written host.new ++ output.new ≡ H.written host.old ++ (output.old ++ printed (step_of item (state_of work.old)).lines)) }
+    ensures front { H.tells → WritesPrefix (H.written host.old) (H.written host.new) (output.old ++ printed (step_of item (state_of work.old)).lines) }
     ensures moments { H.tells → IsHonest (H.standing host.old) → IsCalm (H.history host.old) (H.files host.old) work.old.log.gated → IsNamed item → (least : ℕ) (before : List ℕ) (rest : List (List ℕ)) → IsAcknowledging least before (H.files host.old) (H.written host.old) output.old work.old.database.commits → Since (IsHeld least (texts_in (H.files host.old) ++ ((step_of item (state_of work.old)).texts ++ rest)) before) (H.history host.old) (H.history host.new) }
     ensures alone { H.tells → IsHonest (H.standing host.old) → IsCalm (H.history host.old) (H.files host.old) work.old.log.gated → Since (IsLogAlone (H.history host.old).now) (H.history host.old) (H.history host.new) }
     ensures telling { H.tells → IsHonest (H.standing host.old) → IsNamed item → (least : ℕ) (before : List ℕ) → IsAcknowledging least before (H.files host.old) (H.written host.old) output.old work.old.database.commits → OnOk result (IsAcknowledging least before (H.files host.new) (H.written host.new) output.new work.new.database.commits) }
@@ -109,11 +110,11 @@ fn perform<H: Host>(
     ensures logged { H.tells → IsHonest (H.standing host.old) → OnOk result (IsLog (H.files host.new) work.new.log) }
     ensures texts { H.tells → IsHonest (H.standing host.old) → OnOk result (texts_in (H.files host.new) ≡ texts_in (H.files host.old) ++ (step_of item (state_of work.old)).texts) }
     ensures others { H.tells → IsHonest (H.standing host.old) → OnlyLog (H.files host.old) (H.files host.new) }
-    ensures done { H.tells → OnOk result (H.written host.new ++ output.new ≡ H.written host.old ++ (output.old ++ (step_of item (state_of work.old)).lines)) }
-    ensures front { H.tells → WritesPrefix (H.written host.old) (H.written host.new) (output.old ++ (step_of item (state_of work.old)).lines) }
+    ensures done { H.tells → OnOk result (H.written host.new ++ output.new ≡ H.written host.old ++ (output.old ++ printed (step_of item (state_of work.old)).lines)) }
+    ensures front { H.tells → WritesPrefix (H.written host.old) (H.written host.new) (output.old ++ printed (step_of item (state_of work.old)).lines) }
     ensures unsaid { IsErrOf result Status.DiskFault → (output.new ≡ output.old) × (H.written host.new ≡ H.written host.old) }
     ensures output_fault { IsErrOf result Status.OutputFault → Rose (H.output_faults host.old) (H.output_faults host.new) }
-    ensures moments { H.tells → IsHonest (H.standing host.old) → IsCalm (H.history host.old) (H.files host.old) work.old.log.gated → Since (IsStep (H.history host.old).now (output.old ++ (step_of item (state_of work.old)).lines) (H.files host.old).log work.old.log.gated.end (step_of item (state_of work.old)).texts) (H.history host.old) (H.history host.new) }
+    ensures moments { H.tells → IsHonest (H.standing host.old) → IsCalm (H.history host.old) (H.files host.old) work.old.log.gated → Since (IsStep (H.history host.old).now (output.old ++ printed (step_of item (state_of work.old)).lines) (H.files host.old).log work.old.log.gated.end (step_of item (state_of work.old)).texts) (H.history host.old) (H.history host.new) }
     ensures calm { H.tells → IsHonest (H.standing host.old) → IsCalm (H.history host.old) (H.files host.old) work.old.log.gated → OnOk result (IsCalm (H.history host.new) (H.files host.new) work.new.log.gated) }
     ensures disk_fault { IsErrOf result Status.DiskFault → Rose (H.disk_faults host.old) (H.disk_faults host.new) }
     ensures only { IsErrOf result Status.Done ⊎ (IsErrOf result Status.Usage ⊎ (IsErrOf result Status.InputFault ⊎ IsErrOf result Status.InputTooLong)) → ⊥ }
@@ -162,11 +163,11 @@ fn enter<H: Host>(
     ensures logged { H.tells → IsHonest (H.standing host.old) → OnOk result (IsLog (H.files host.new) work.new.log) }
     ensures texts { H.tells → IsHonest (H.standing host.old) → OnOk result (texts_in (H.files host.new) ≡ texts_in (H.files host.old) ++ (step_of (Item.Entry number name.now text.now 0) (state_of work.old)).texts) }
     ensures others { H.tells → IsHonest (H.standing host.old) → OnlyLog (H.files host.old) (H.files host.new) }
-    ensures done { H.tells → OnOk result (H.written host.new ++ output.new ≡ H.written host.old ++ (output.old ++ (step_of (Item.Entry number name.now text.now 0) (state_of work.old)).lines)) }
-    ensures front { H.tells → WritesPrefix (H.written host.old) (H.written host.new) (output.old ++ (step_of (Item.Entry number name.now text.now 0) (state_of work.old)).lines) }
+    ensures done { H.tells → OnOk result (H.written host.new ++ output.new ≡ H.written host.old ++ (output.old ++ printed (step_of (Item.Entry number name.now text.now 0) (state_of work.old)).lines)) }
+    ensures front { H.tells → WritesPrefix (H.written host.old) (H.written host.new) (output.old ++ printed (step_of (Item.Entry number name.now text.now 0) (state_of work.old)).lines) }
     ensures unsaid { IsErrOf result Status.DiskFault → (output.new ≡ output.old) × (H.written host.new ≡ H.written host.old) }
     ensures output_fault { IsErrOf result Status.OutputFault → Rose (H.output_faults host.old) (H.output_faults host.new) }
-    ensures moments { H.tells → IsHonest (H.standing host.old) → IsCalm (H.history host.old) (H.files host.old) work.old.log.gated → Since (IsStep (H.history host.old).now (output.old ++ (step_of (Item.Entry number name.now text.now 0) (state_of work.old)).lines) (H.files host.old).log work.old.log.gated.end (step_of (Item.Entry number name.now text.now 0) (state_of work.old)).texts) (H.history host.old) (H.history host.new) }
+    ensures moments { H.tells → IsHonest (H.standing host.old) → IsCalm (H.history host.old) (H.files host.old) work.old.log.gated → Since (IsStep (H.history host.old).now (output.old ++ printed (step_of (Item.Entry number name.now text.now 0) (state_of work.old)).lines) (H.files host.old).log work.old.log.gated.end (step_of (Item.Entry number name.now text.now 0) (state_of work.old)).texts) (H.history host.old) (H.history host.new) }
     ensures calm { H.tells → IsHonest (H.standing host.old) → IsCalm (H.history host.old) (H.files host.old) work.old.log.gated → OnOk result (IsCalm (H.history host.new) (H.files host.new) work.new.log.gated) }
     ensures disk_fault { IsErrOf result Status.DiskFault → Rose (H.disk_faults host.old) (H.disk_faults host.new) }
     ensures only { IsErrOf result Status.Done ⊎ (IsErrOf result Status.Usage ⊎ (IsErrOf result Status.InputFault ⊎ IsErrOf result Status.InputTooLong)) → ⊥ }
@@ -221,11 +222,11 @@ fn execute<H: Host>(
     ensures logged { H.tells → IsHonest (H.standing host.old) → OnOk result (IsLog (H.files host.new) log.new) }
     ensures texts { H.tells → IsHonest (H.standing host.old) → OnOk result (texts_in (H.files host.new) ≡ texts_in (H.files host.old) ++ logged log.old.last session statement (performed database.old statement).reply) }
     ensures others { H.tells → IsHonest (H.standing host.old) → OnlyLog (H.files host.old) (H.files host.new) }
-    ensures done { H.tells → OnOk result (H.written host.new ++ output.new ≡ H.written host.old ++ (output.old ++ outcome_lines number name.now (performed database.old statement))) }
-    ensures front { H.tells → WritesPrefix (H.written host.old) (H.written host.new) (output.old ++ outcome_lines number name.now (performed database.old statement)) }
+    ensures done { H.tells → OnOk result (H.written host.new ++ output.new ≡ H.written host.old ++ (output.old ++ printed (reply_lines number name.now (performed database.old statement).reply))) }
+    ensures front { H.tells → WritesPrefix (H.written host.old) (H.written host.new) (output.old ++ printed (reply_lines number name.now (performed database.old statement).reply)) }
     ensures unsaid { IsErrOf result Status.DiskFault → (output.new ≡ output.old) × (H.written host.new ≡ H.written host.old) }
     ensures output_fault { IsErrOf result Status.OutputFault → Rose (H.output_faults host.old) (H.output_faults host.new) }
-    ensures moments { H.tells → IsHonest (H.standing host.old) → IsCalm (H.history host.old) (H.files host.old) log.old.gated → Since (IsStep (H.history host.old).now (output.old ++ outcome_lines number name.now (performed database.old statement)) (H.files host.old).log log.old.gated.end (logged log.old.last session statement (performed database.old statement).reply)) (H.history host.old) (H.history host.new) }
+    ensures moments { H.tells → IsHonest (H.standing host.old) → IsCalm (H.history host.old) (H.files host.old) log.old.gated → Since (IsStep (H.history host.old).now (output.old ++ printed (reply_lines number name.now (performed database.old statement).reply)) (H.files host.old).log log.old.gated.end (logged log.old.last session statement (performed database.old statement).reply)) (H.history host.old) (H.history host.new) }
     ensures calm { H.tells → IsHonest (H.standing host.old) → IsCalm (H.history host.old) (H.files host.old) log.old.gated → OnOk result (IsCalm (H.history host.new) (H.files host.new) log.new.gated) }
     ensures disk_fault { IsErrOf result Status.DiskFault → Rose (H.disk_faults host.old) (H.disk_faults host.new) }
     ensures only { IsErrOf result Status.Done ⊎ (IsErrOf result Status.Usage ⊎ (IsErrOf result Status.InputFault ⊎ IsErrOf result Status.InputTooLong)) → ⊥ }
@@ -286,8 +287,8 @@ fn change<H: Host>(
     ensures logged { H.tells → IsHonest (H.standing host.old) → OnOk result (IsLog (H.files host.new) log.new) }
     ensures texts { H.tells → IsHonest (H.standing host.old) → OnOk result (texts_in (H.files host.new) ≡ texts_in (H.files host.old) ++ logged log.old.last session (Some statement) (executed database.old statement).reply) }
     ensures others { H.tells → IsHonest (H.standing host.old) → OnlyLog (H.files host.old) (H.files host.new) }
-    ensures done { H.tells → OnOk result (H.written host.new ++ output.new ≡ H.written host.old ++ (output.old ++ outcome_lines number name.now (executed database.old statement))) }
-    ensures front { H.tells → WritesPrefix (H.written host.old) (H.written host.new) (output.old ++ outcome_lines number name.now (executed database.old statement)) }
+    ensures done { H.tells → OnOk result (H.written host.new ++ output.new ≡ H.written host.old ++ (output.old ++ printed (reply_lines number name.now (executed database.old statement).reply))) }
+    ensures front { H.tells → WritesPrefix (H.written host.old) (H.written host.new) (output.old ++ printed (reply_lines number name.now (executed database.old statement).reply)) }
     ensures unsaid { IsErrOf result Status.DiskFault → (output.new ≡ output.old) × (H.written host.new ≡ H.written host.old) }
     ensures output_fault { IsErrOf result Status.OutputFault → Rose (H.output_faults host.old) (H.output_faults host.new) }
     ensures moments { H.tells → IsHonest (H.standing host.old) → IsCalm (H.history host.old) (H.files host.old) log.old.gated → Since (IsLogging (H.history host.old).now (H.files host.old).log log.old.gated.end (logged log.old.last session (Some statement) (executed database.old statement).reply)) (H.history host.old) (H.history host.new) }
@@ -356,9 +357,9 @@ fn select<H: Host>(
     output: &mut Output,
     host: &mut H,
 ) -> Result<(), Status>
-    ensures done { H.tells → OnOk result (H.written host.new ++ output.new ≡ H.written host.old ++ (output.old ++ outcome_lines number session.now (executed database.now (Statement.Select name)))) }
-    ensures front { H.tells → WritesPrefix (H.written host.old) (H.written host.new) (output.old ++ outcome_lines number session.now (executed database.now (Statement.Select name))) }
-    ensures moments { H.tells → Since (IsPrinted (H.history host.old).now (output.old ++ outcome_lines number session.now (executed database.now (Statement.Select name)))) (H.history host.old) (H.history host.new) }
+    ensures done { H.tells → OnOk result (H.written host.new ++ output.new ≡ H.written host.old ++ (output.old ++ printed (reply_lines number session.now (executed database.now (Statement.Select name)).reply))) }
+    ensures front { H.tells → WritesPrefix (H.written host.old) (H.written host.new) (output.old ++ printed (reply_lines number session.now (executed database.now (Statement.Select name)).reply)) }
+    ensures moments { H.tells → Since (IsPrinted (H.history host.old).now (output.old ++ printed (reply_lines number session.now (executed database.now (Statement.Select name)).reply))) (H.history host.old) (H.history host.new) }
     ensures output_fault { IsErrOf result Status.OutputFault → Rose (H.output_faults host.old) (H.output_faults host.new) }
     ensures only { IsErrOf result Status.Done ⊎ (IsErrOf result Status.Usage ⊎ (IsErrOf result Status.InputFault ⊎ (IsErrOf result Status.DiskFault ⊎ IsErrOf result Status.InputTooLong))) → ⊥ }
     ensures whole { IfErr result (λ status. is_damaged status ≡ false) }
@@ -388,9 +389,9 @@ fn push_answer<H: Host>(
     output: &mut Output,
     host: &mut H,
 ) -> Result<(), Status>
-    ensures done { H.tells → OnOk result (H.written host.new ++ output.new ≡ H.written host.old ++ (output.old ++ answer_lines number session.now table.now)) }
-    ensures front { H.tells → WritesPrefix (H.written host.old) (H.written host.new) (output.old ++ answer_lines number session.now table.now) }
-    ensures moments { H.tells → Since (IsPrinted (H.history host.old).now (output.old ++ answer_lines number session.now table.now)) (H.history host.old) (H.history host.new) }
+    ensures done { H.tells → OnOk result (H.written host.new ++ output.new ≡ H.written host.old ++ (output.old ++ printed (answer_lines number session.now table.now))) }
+    ensures front { H.tells → WritesPrefix (H.written host.old) (H.written host.new) (output.old ++ printed (answer_lines number session.now table.now)) }
+    ensures moments { H.tells → Since (IsPrinted (H.history host.old).now (output.old ++ printed (answer_lines number session.now table.now))) (H.history host.old) (H.history host.new) }
     ensures output_fault { IsErrOf result Status.OutputFault → Rose (H.output_faults host.old) (H.output_faults host.new) }
     ensures only { IsErrOf result Status.Done ⊎ (IsErrOf result Status.Usage ⊎ (IsErrOf result Status.InputFault ⊎ (IsErrOf result Status.DiskFault ⊎ IsErrOf result Status.InputTooLong))) → ⊥ }
     ensures whole { IfErr result (λ status. is_damaged status ≡ false) }
@@ -403,7 +404,8 @@ fn push_answer<H: Host>(
 {
     let rows = sorted(alloc, table)?;
     push_rows(number, session, rows.as_slice(), output, host)?;
-    let reply = Reply::Done {
+    let reply = Reply::Ok {
+        rows: None,
         count: Some(table.rows.len() as u64),
         committed: None,
     };
@@ -420,9 +422,9 @@ fn push_rows<H: Host>(
     output: &mut Output,
     host: &mut H,
 ) -> Result<(), Status>
-    ensures done { H.tells → OnOk result (H.written host.new ++ output.new ≡ H.written host.old ++ (output.old ++ rows_lines number session.now (map (λ r. r.now) rows.now))) }
-    ensures front { H.tells → WritesPrefix (H.written host.old) (H.written host.new) (output.old ++ rows_lines number session.now (map (λ r. r.now) rows.now)) }
-    ensures moments { H.tells → Since (IsPrinted (H.history host.old).now (output.old ++ rows_lines number session.now (map (λ r. r.now) rows.now))) (H.history host.old) (H.history host.new) }
+    ensures done { H.tells → OnOk result (H.written host.new ++ output.new ≡ H.written host.old ++ (output.old ++ printed (rows_lines number session.now (map (λ r. r.now) rows.now)))) }
+    ensures front { H.tells → WritesPrefix (H.written host.old) (H.written host.new) (output.old ++ printed (rows_lines number session.now (map (λ r. r.now) rows.now))) }
+    ensures moments { H.tells → Since (IsPrinted (H.history host.old).now (output.old ++ printed (rows_lines number session.now (map (λ r. r.now) rows.now)))) (H.history host.old) (H.history host.new) }
     ensures output_fault { IsErrOf result Status.OutputFault → Rose (H.output_faults host.old) (H.output_faults host.new) }
     ensures only { IsErrOf result Status.Done ⊎ (IsErrOf result Status.Usage ⊎ (IsErrOf result Status.InputFault ⊎ (IsErrOf result Status.DiskFault ⊎ IsErrOf result Status.InputTooLong))) → ⊥ }
     ensures whole { IfErr result (λ status. is_damaged status ≡ false) }

@@ -4,6 +4,7 @@ use Rattle.hs_host.specs.Moments.{Since, IsPrinted}
 use Rattle.hs_host.proofs.Passing.{since_weaker, since_join, since_now}
 use Rattle.hs_gate.specs.Crash.{IsCalm}
 use Rattle.hs_top.specs.Holding.{IsHeld, IsGathered, IsAcknowledging}
+use Rattle.hs_machine.specs.Lines.{printed}
 use Rattle.hs_top.specs.Machine.{step_of}
 use Rattle.hs_top.specs.Running.{state_of, texts_in}
 use Rattle.hs_top.specs.Acknowledged.{IsNamed}
@@ -25,10 +26,10 @@ done g c told honest calm named least before rest t =
     let all = subst (λ (o : List ℕ). IsGathered before o c.args.output.now s.database.commits) out t.gathered in
     since_weaker (c.perform.ensures.moments told honest calm)
     (λ m. held_step (g.H.Host.files c.args.host.now) (g.H.Host.history c.args.host.now) c.args.work.now.log c.requires.whole.sound (c.requires.logged told honest) calm least before s.database.commits t.enough t.counted
-    c.args.output.now step.lines step.texts rest m all
+    c.args.output.now (printed step.lines) step.texts rest m all
     (λ none.
     let same : step.next.database.commits ≡ s.database.commits = omega (arith, one_text c.args.item s, ap length none) in
-    subst (IsGathered before (g.H.Host.history c.args.host.now).now.out (c.args.output.now ++ step.lines)) same (gathered_step before _ c.args.output.now c.args.item s named all)))
+    subst (IsGathered before (g.H.Host.history c.args.host.now).now.out (c.args.output.now ++ printed step.lines)) same (gathered_step before _ c.args.output.now c.args.item s named all)))
 
 -- and what it left
 left : (g : _) (c : After-flush_when_large g) → g.H.Source.tells → IsHonest (g.H.Host.standing c.args.host.now) → IsNamed c.args.item
@@ -67,7 +68,7 @@ failed g c told honest calm named least before rest t =
     since_join (done g (goal.at.After-hand_over g c).After-perform told honest calm named least before rest t)
     (since_weaker (c.hand_over.ensures.moments told)
     (λ m printed. held_failed (g.H.Host.files c.args.host.now) (g.H.Host.history c.args.host.now) c.args.work.now.log c.requires.whole.sound (c.requires.logged told honest) calm least before c.args.work.now.database.commits t.enough t.counted
-    c.args.output.now step.lines step.texts rest (g.H.Host.history c.perform.new.host).now m all
+    c.args.output.now (printed step.lines) step.texts rest (g.H.Host.history c.perform.new.host).now m all
     (g.met.H.Host.output_now c.perform.new.host told ∙ unsaid.1 ∙ sym out)
     (since_now (c.perform.ensures.moments told honest calm))
     (subst (λ (l : List ℕ). IsPrinted (g.H.Host.history c.perform.new.host).now l m) unsaid.0 printed)))
@@ -105,7 +106,7 @@ returns-in_ok-flush_when_large-in-Ok-clause-alone g c = λ told honest calm.
 pub returns-in-Err-DiskFault-clause-front : goal.returns-in-Err-DiskFault-clause-front
 returns-in-Err-DiskFault-clause-front g c = λ told.
     let unsaid = c.in-Err-DiskFault.ensures.unsaid (ap Err c.in-Err-DiskFault.field-0-is) in
-    front_so_far (g.H.Host.written c.args.host.now) (g.H.Host.written c.perform.new.host) (g.H.Host.written c.hand_over.new.host) c.args.output.now c.perform.new.output (step_of c.args.item (state_of c.args.work.now)).lines
+    front_so_far (g.H.Host.written c.args.host.now) (g.H.Host.written c.perform.new.host) (g.H.Host.written c.hand_over.new.host) c.args.output.now c.perform.new.output (printed (step_of c.args.item (state_of c.args.work.now)).lines)
     unsaid.1 unsaid.0 (c.hand_over.ensures.front told)
 
 pub returns-in-Err-DiskFault-clause-moments : goal.returns-in-Err-DiskFault-clause-moments

@@ -5,7 +5,8 @@ use Rattle.hs_top.specs.declared.statement.Statement.{Statement}
 use Rattle.hs_top.specs.declared.statement.Statement.TheVariants.{Create, Insert, Select}
 use Rattle.hs_top.specs.Database.{performed}
 use Rattle.hs_top.specs.Holding.{IsStep, IsLogging}
-use Rattle.hs_top.specs.Lines.{outcome_lines}
+use Rattle.hs_machine.specs.Lines.{printed}
+use Rattle.hs_machine.specs.Replies.{reply_lines}
 use Rattle.hs_top.specs.Machine.{logged}
 use Rattle.hs_top.proofs.Holding.{calm_told}
 use Rattle.hs_top.proofs.Queries.{query_logs}
@@ -14,13 +15,13 @@ use Rattle.hs_top.proofs.answer.execute.Goals.{After-select}
 
 -- the moments of a query
 asked : (g : _) (c : After-select g) → g.H.Source.tells
-    → Since (IsStep (g.H.Host.history c.args.host.now).now (c.args.output.now ++ outcome_lines c.args.number c.args.name.now (performed c.args.database.now c.args.statement)) (g.H.Host.files c.args.host.now).log c.args.log.now.gated.end
+    → Since (IsStep (g.H.Host.history c.args.host.now).now (c.args.output.now ++ printed (reply_lines c.args.number c.args.name.now (performed c.args.database.now c.args.statement).reply)) (g.H.Host.files c.args.host.now).log c.args.log.now.gated.end
     (logged c.args.log.now.last c.args.session c.args.statement (performed c.args.database.now c.args.statement).reply)) (g.H.Host.history c.args.host.now) (g.H.Host.history c.select.new.host)
 asked g c told =
     let is : c.args.statement ≡ Some (Select c.in-Some-Select.table) = c.in-Some-Select.is ∙ ap Some c.in-Some-Select.field-0-is in
     since_weaker (c.select.ensures.moments told) (λ m t. inl (
       query_logs c.args.log.now.last c.args.session c.args.database.now c.args.statement c.in-Some-Select.table is,
-      subst (λ (s : Option Statement). IsPrinted (g.H.Host.history c.args.host.now).now (c.args.output.now ++ outcome_lines c.args.number c.args.name.now (performed c.args.database.now s)) m) (sym is) t,
+      subst (λ (s : Option Statement). IsPrinted (g.H.Host.history c.args.host.now).now (c.args.output.now ++ printed (reply_lines c.args.number c.args.name.now (performed c.args.database.now s).reply)) m) (sym is) t,
     ))
 
 pub returns-in_err-select-in-Some-Select-clause-moments : goal.returns-in_err-select-in-Some-Select-clause-moments

@@ -3,7 +3,7 @@ use Rattle.hs_host.specs.Files.{Five, IsHonest, with_}
 use Rattle.hs_entries.specs.declared.item.Item.{Item}
 use Rattle.hs_entries.specs.Items.{items, whole_items}
 use Rattle.hs_entries.specs.Reader.{left_items, left_whole}
-use Rattle.hs_top.specs.Lines.{opened_line}
+use Rattle.hs_machine.specs.Lines.{OpenedAt, printed_line}
 use Rattle.hs_top.specs.Machine.{State, WritesPrefix, machine, transcript, rest_of, lines_of, texts_of}
 use Rattle.hs_top.specs.Opening.{opened_by, begun_with, texts_from, IsWholeLog}
 use Rattle.hs_host.specs.declared.file_kind.FileKind.TheVariants.{Log}
@@ -31,8 +31,8 @@ pub returns-in_err-push_opened-clause-front : goal.returns-in_err-push_opened-cl
 returns-in_err-push_opened-clause-front g c = λ told. nothing_yet _ _
 
 -- the first line is gathered, nothing is read, and there is no session
-first_line : (g : _) (c : After-new-2 g) → c.push_opened.new.self ≡ opened_line c.args.opening.database.commits
-first_line g c = c.in_ok-push_opened.ensures ∙ ap (λ (l : List ℕ). l ++ opened_line c.args.opening.database.commits) c.new-output.ensures
+first_line : (g : _) (c : After-new-2 g) → c.push_opened.new.self ≡ printed_line (OpenedAt c.args.opening.database.commits)
+first_line g c = c.in_ok-push_opened.ensures ∙ ap (λ (l : List ℕ). l ++ printed_line (OpenedAt c.args.opening.database.commits)) c.new-output.ensures
 
 first_state : (g : _) (c : After-new-2 g) → state_of (record { sessions = c.new-2.result; database = c.args.opening.database; log = c.args.opening.log; text = [] }) ≡ begun_with (opened_by c.args.opening)
 first_state g c = ap (λ (names : List (List ℕ)). record { sessions = names; last = c.args.opening.log.last; database = c.args.opening.database }) c.new-2.ensures
@@ -54,12 +54,12 @@ loop-running-init g c =
       sane = record { reader = c.new.ensures.kept; work = record { sound = c.requires.sound; room = c.requires.room } };
       so_far = λ told.
           ap (λ (o : List ℕ). written ++ (o ++ rest_of (machine (left_items c.new.result unread) work))) (first_line g at)
-          ∙ ap (λ (is : List Item). written ++ (opened_line c.args.opening.database.commits ++ rest_of (machine is work))) (first_items g at)
-          ∙ ap (λ (s : State). written ++ (opened_line c.args.opening.database.commits ++ rest_of (machine (items 1 unread) s))) (first_state g at);
+          ∙ ap (λ (is : List Item). written ++ (printed_line (OpenedAt c.args.opening.database.commits) ++ rest_of (machine is work))) (first_items g at)
+          ∙ ap (λ (s : State). written ++ (printed_line (OpenedAt c.args.opening.database.commits) ++ rest_of (machine (items 1 unread) s))) (first_state g at);
       within = λ told more.
           ap (λ (o : List ℕ). written ++ (o ++ lines_of (machine (left_whole c.new.result unread) work))) (first_line g at)
-          ∙ ap (λ (is : List Item). written ++ (opened_line c.args.opening.database.commits ++ lines_of (machine is work))) (first_whole g at)
-          ∙ ap (λ (s : State). written ++ (opened_line c.args.opening.database.commits ++ lines_of (machine (whole_items 1 (take (2 ^ 30) unread)) s))) (first_state g at);
+          ∙ ap (λ (is : List Item). written ++ (printed_line (OpenedAt c.args.opening.database.commits) ++ lines_of (machine is work))) (first_whole g at)
+          ∙ ap (λ (s : State). written ++ (printed_line (OpenedAt c.args.opening.database.commits) ++ lines_of (machine (whole_items 1 (take (2 ^ 30) unread)) s))) (first_state g at);
       texts = λ told honest.
           ap (λ (is : List Item). texts ++ texts_of (machine is work)) (first_items g at)
           ∙ ap (λ (s : State). texts ++ texts_of (machine (items 1 unread) s)) (first_state g at);

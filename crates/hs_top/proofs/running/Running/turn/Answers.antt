@@ -1,4 +1,4 @@
-use Rattle.std.proofs.Common.{◌≡◌, ◌++◌, ◌∷◌, List, ℕ, Err, refl, sym, ap, subst, ◌∙◌, append-nil}
+use Rattle.std.proofs.Common.{◌≡◌, ◌++◌, ◌∷◌, List, ℕ, true, Err, refl, sym, ap, subst, ◌∙◌, append-nil}
 use Rattle.hs_host.specs.Files.{Five, IsHonest}
 use Rattle.hs_entries.specs.declared.item.Item.{Item}
 use Rattle.hs_host.specs.Moments.{Since}
@@ -7,7 +7,9 @@ use Rattle.hs_gate.specs.Crash.{IsCalm}
 use Rattle.hs_entries.specs.Reader.{ahead, left_items, left_whole, next_number}
 use Rattle.hs_top.specs.Crash.{IsLogAlone}
 use Rattle.hs_top.specs.Holding.{IsHeld, IsGathered, IsAcknowledging}
-use Rattle.hs_top.specs.Acknowledged.{IsNamed, Each}
+use Rattle.std.proofs.lemmas.Bool.{and_parts}
+use Rattle.hs_machine.specs.Lines.{printed}
+use Rattle.hs_top.specs.Acknowledged.{IsNamed, are_named}
 use Rattle.hs_top.proofs.Alone.{alone_printing, alone_on}
 use Rattle.hs_top.proofs.Holding.{calm_told, held_telling, telling_handed}
 use Rattle.hs_top.proofs.Acknowledged.{items_named}
@@ -30,7 +32,7 @@ next g c told =
 -- and what is left goes on behind its lines
 goes_on : (g : _) (c : After-answer g) → g.H.Source.tells → (after : State) → after ≡ (step_of c.in-Ok.item (state_of c.args.self.now.work)).next
     → rest_of (machine (left_items c.args.self.now.reader (g.H.Source.unread c.args.host.now)) (state_of c.args.self.now.work))
-    ≡ (step_of c.in-Ok.item (state_of c.args.self.now.work)).lines ++ rest_of (machine (left_items c.next_item.new.reader (g.H.Source.unread c.answer.new.host)) after)
+    ≡ printed (step_of c.in-Ok.item (state_of c.args.self.now.work)).lines ++ rest_of (machine (left_items c.next_item.new.reader (g.H.Source.unread c.answer.new.host)) after)
 goes_on g c told after done = rest_of-turn _ _ c.in-Ok.item (state_of c.args.self.now.work) after (next g c told) done
 
 front_of_turn : (g : _) (c : After-answer g) → g.H.Source.tells
@@ -127,7 +129,7 @@ still_honest : (g : _) (c : In-Ok g) → IsHonest (g.H.Host.standing c.args.host
 still_honest g c honest = subst IsHonest (sym c.in-Ok.ensures.standing) honest
 
 named : (g : _) (c : After-answer g) → g.H.Source.tells → IsNamed c.in-Ok.item
-named g c told = (subst (Each IsNamed) (next g c told) (items_named (next_number c.args.self.now.reader) (ahead c.args.self.now.reader ++ g.H.Source.unread c.args.host.now))).0
+named g c told = (and_parts _ _ (subst (λ (is : List Item). are_named is ≡ true) (next g c told) (items_named (next_number c.args.self.now.reader) (ahead c.args.self.now.reader ++ g.H.Source.unread c.args.host.now)))).0
 
 -- the moments of the turn
 turning_moments : (g : _) (c : After-answer g) → g.H.Source.tells → IsHonest (g.H.Host.standing c.args.host.now) → IsCalm (g.H.Host.history c.args.host.now) (g.H.Host.files c.args.host.now) c.args.self.now.work.log.gated
