@@ -1,27 +1,38 @@
 -- What a crash leaves of a gated file.
-use Rattle.std.specs.Prelude.{◌≡◌, ◌⊎◌, ℕ, ◌+◌, ◌<◌, ◌≤◌, List, length, take}
+use Rattle.std.specs.Prelude.{◌≡◌, ◌≢◌, ◌⊎◌, ℕ, ◌+◌, ◌≤◌, true, false, List, [], ◌∷◌, ◌++◌, length, take, slice_index}
 use Rattle.hs_host.specs.declared.file_kind.FileKind.{FileKind}
-use Rattle.hs_host.specs.Files.{Five, of, overwrite}
+use Rattle.hs_host.specs.Disk.{Pending}
+use Rattle.hs_host.specs.Files.{Five, of, overwrite, piece}
 use Rattle.hs_host.specs.Prefixes.{KeepsPrefix}
 use Rattle.hs_host.specs.Moments.{Moment, History, IsWritten, IsSynced, disk_of}
 use Rattle.hs_gate.specs.declared.gated.Gated.{Gated}
-use Rattle.hs_gate.specs.Groups.{groups_of, and_group}
+use Rattle.hs_gate.specs.Gated.{IsGated}
+use Rattle.hs_gate.specs.Groups.{is_open, is_born, epoch_of, groups_of, and_groups}
 
 -- the file up to the gate that ends its groups is on the disk, and no write or cut since has touched it
 abbrev pub IsCalm : History → Five (List ℕ) → Gated → Type 0
 IsCalm h files gated = KeepsPrefix (disk_of h.now gated.file) (gated.end + 1) (of files gated.file)
 
--- what is left begins with the file up to the gate that ends its groups, and so has the same groups
-pub record IsAsBefore (old : List ℕ) (end : ℕ) (left : List ℕ) : Type 0 where
-  pub long : end < length left
-  pub front : take end left ≡ take end old
+-- this is how the file is read, and it is on the disk so
+pub record StandsOnDisk (h : History) (files : Five (List ℕ)) (gated : Gated) : Type 0 where
+  pub stands : IsGated files gated
+  pub calm : IsCalm h files gated
+
+-- the same birth, the same header gate and the same epoch
+pub record HasSameHeader (old new : List ℕ) : Type 0 where
+  pub birth : is_born new ≡ is_born old
+  pub gate : is_open new ≡ is_open old
+  pub epoch : epoch_of new ≡ epoch_of old
+
+-- what is left has the same header and the same groups
+pub record IsAsBefore (old left : List ℕ) : Type 0 where
+  pub header : HasSameHeader old left
   pub groups : groups_of left ≡ groups_of old
 
--- what is left begins with the file up to that gate, and has the same groups, or these and the new one
-pub record IsBeforeOrAfter (old : List ℕ) (end : ℕ) (payload : List ℕ) (left : List ℕ) : Type 0 where
-  pub long : end < length left
-  pub front : take end left ≡ take end old
-  pub groups : (groups_of left ≡ groups_of old) ⊎ (groups_of left ≡ and_group payload (groups_of old))
+-- what is left has the same header, and the same groups, or these and all the new ones
+pub record IsBeforeOrAfter (old : List ℕ) (more : List (List ℕ)) (left : List ℕ) : Type 0 where
+  pub header : HasSameHeader old left
+  pub groups : (groups_of left ≡ groups_of old) ⊎ (groups_of left ≡ and_groups more (groups_of old))
 
 -- nothing is said of what is left
 abbrev pub IsAny : List ℕ → Type 0

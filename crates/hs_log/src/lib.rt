@@ -5,4 +5,4 @@ mod commit;
 #[cfg(test)]
 mod tests;
 
-pub use commit::log_commit;
+pub use commit::{log_commit, log_commits};
