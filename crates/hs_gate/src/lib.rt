@@ -19,8 +19,6 @@ mod read;
 mod reading;
 mod scan;
 mod start;
-#[cfg(test)]
-mod tests;
 mod window;
 mod writing;
 
