@@ -1,5 +1,5 @@
 -- What a call used of the outside, and what it left alone.
-use Rattle.std.specs.Prelude.{◌≡◌, ℕ, ◌≤◌, List}
+use Rattle.std.specs.Prelude.{◌≡◌, ℕ, ◌≤◌, List, ◌++◌}
 use Rattle.hs_host.specs.declared.file_kind.FileKind.{FileKind}
 use Rattle.hs_host.specs.declared.source.Source as source
 use Rattle.hs_host.specs.declared.host.Host as host
@@ -32,8 +32,7 @@ pub record UsesOutput {H : Type 0} (s : source.Ghosts H) (g : host.Ghosts H) (ol
   pub disk_faults : g.disk_faults new ≡ g.disk_faults old
   pub output_later : g.output_faults old ≤ g.output_faults new
 
--- Only the input was used. While it is read, output and disk are as before, and what was taken grows by what is no longer
--- unread.
+-- Only the input was used. While it is read, output and disk are as before, and what is no longer unread was taken.
 pub record UsesInput {H : Type 0} (s : source.Ghosts H) (g : host.Ghosts H) (old new : H) : Type 0 where
   pub standing : g.standing new ≡ g.standing old
   pub written : g.written new ≡ g.written old
@@ -41,6 +40,7 @@ pub record UsesInput {H : Type 0} (s : source.Ghosts H) (g : host.Ghosts H) (old
   pub files : g.files new ≡ g.files old
   pub disk_faults : g.disk_faults new ≡ g.disk_faults old
   pub moments : s.tells → Since (IsReading (g.history old).now) (g.history old) (g.history new)
+  pub taken : s.tells → (g.history new).now.taken ++ s.unread new ≡ (g.history old).now.taken ++ s.unread old
 
 -- Anything may have been used, but no count of faults fell and the host stands as before.
 pub record UsesAll {H : Type 0} (s : source.Ghosts H) (g : host.Ghosts H) (old new : H) : Type 0 where

@@ -14,6 +14,7 @@ use crate::source::Source;
 /// The length of a file in bytes.
 ///
 /// `Fault` comes only where the device failed, and `NoMemory` where memory is refused.
+#[tactic(auto, using(crate::proofs::Passing::passes_since))]
 pub fn len<H: Host>(host: &mut H, file: FileKind) -> Result<u64, HostFault>
     requires { IsOpen (H.standing host.old) }
     ensures reads { ReadsFiles H.Source H.Host.own host.old host.new }
@@ -27,6 +28,7 @@ pub fn len<H: Host>(host: &mut H, file: FileKind) -> Result<u64, HostFault>
 ///
 /// `Fault` comes only where the device failed, and `NoMemory` where memory is refused. After either nothing is said
 /// of `buf`.
+#[tactic(auto, using(crate::proofs::Passing::passes_since))]
 pub fn read<H: Host>(host: &mut H, file: FileKind, at: u64, buf: &mut [u8]) -> Result<(), HostFault>
     requires opened { IsOpen (H.standing host.old) }
     requires within { Told H.Source H.Host.own host.old → at + length buf.old ≤ length (of (H.files host.old) file) }
@@ -43,6 +45,7 @@ pub fn read<H: Host>(host: &mut H, file: FileKind, at: u64, buf: &mut [u8]) -> R
 /// `Fault` comes only where the device failed, and `NoMemory` where memory is refused; one of the two comes where
 /// the file would get longer than 2^62 bytes. After either a file of an honest host reads as before, and a crash may
 /// leave part of what was to be written.
+#[tactic(auto, using(crate::proofs::Passing::passes_since, crate::proofs::Passing::passes_now))]
 pub fn write<H: Host>(host: &mut H, file: FileKind, at: u64, bytes: &[u8]) -> Result<(), HostFault>
     requires opened { IsOpen (H.standing host.old) }
     requires within { Told H.Source H.Host.own host.old → at ≤ length (of (H.files host.old) file) }
@@ -60,6 +63,7 @@ pub fn write<H: Host>(host: &mut H, file: FileKind, at: u64, bytes: &[u8]) -> Re
 ///
 /// `Fault` comes only where the device failed, and `NoMemory` where memory is refused. After either a file of an
 /// honest host reads as before, and a crash may leave it cut.
+#[tactic(auto, using(crate::proofs::Passing::passes_since, crate::proofs::Passing::passes_now))]
 pub fn cut<H: Host>(host: &mut H, file: FileKind, len: u64) -> Result<(), HostFault>
     requires opened { IsOpen (H.standing host.old) }
     requires within { Told H.Source H.Host.own host.old → len ≤ length (of (H.files host.old) file) }
@@ -76,6 +80,7 @@ pub fn cut<H: Host>(host: &mut H, file: FileKind, len: u64) -> Result<(), HostFa
 ///
 /// `Fault` comes only where the device failed, and `NoMemory` where memory is refused. After either nothing is said
 /// of how much stands there.
+#[tactic(auto, using(crate::proofs::Passing::passes_since, crate::proofs::Passing::synced_now))]
 pub fn sync<H: Host>(host: &mut H, file: FileKind) -> Result<(), HostFault>
     requires { IsOpen (H.standing host.old) }
     ensures moves { Moves H.Source H.Host.own file (IsSyncing (H.history host.old).now file (of (H.files host.old) file) result) host.old host.new }
@@ -90,6 +95,7 @@ pub fn sync<H: Host>(host: &mut H, file: FileKind) -> Result<(), HostFault>
 /// piece that isn't empty is a failure too, and raises `output_faults`.
 ///
 /// `Fault` comes only where writing failed, and `NoMemory` where memory is refused. After either nothing was taken.
+#[tactic(auto, using(crate::proofs::Passing::passes_since))]
 pub fn tell<H: Host>(host: &mut H, bytes: &[u8]) -> Result<usize, HostFault>
     ensures uses { UsesOutput H.Source H.Host.own host.old host.new }
     ensures cause { HasOutputCause (H.output_faults host.old) (H.output_faults host.new) bytes.now result }
