@@ -1,5 +1,5 @@
 -- What a crash leaves of a gated file.
-use Rattle.std.specs.Prelude.{◌≡◌, ◌≢◌, ◌⊎◌, ℕ, ◌+◌, ◌≤◌, true, false, List, [], ◌∷◌, ◌++◌, length, take, slice_index}
+use Rattle.std.specs.Prelude.{◌≡◌, ◌⊎◌, ℕ, ◌+◌, ◌≤◌, List, length, take}
 use Rattle.hs_host.specs.declared.file_kind.FileKind.{FileKind}
 use Rattle.hs_host.specs.Disk.{Pending}
 use Rattle.hs_host.specs.Files.{Five, of, overwrite, piece}
@@ -29,6 +29,11 @@ pub record IsAsBefore (old left : List ℕ) : Type 0 where
   pub header : HasSameHeader old left
   pub groups : groups_of left ≡ groups_of old
 
+-- the same header, and these groups more
+pub record HasMore (old : List ℕ) (more : List (List ℕ)) (new : List ℕ) : Type 0 where
+  pub header : HasSameHeader old new
+  pub groups : groups_of new ≡ and_groups more (groups_of old)
+
 -- what is left has the same header, and the same groups, or these and all the new ones
 pub record IsBeforeOrAfter (old : List ℕ) (more : List (List ℕ)) (left : List ℕ) : Type 0 where
   pub header : HasSameHeader old left
@@ -46,3 +51,13 @@ BeginsWith n old left = (take n left ≡ take n old) × (n ≤ length left)
 pub data IsWriting (before : Moment) (file : FileKind) (at : ℕ) (bytes old : List ℕ) (m : Moment) : Type 0 where
   called : IsWritten before file at (length bytes) m → IsWriting before file at bytes old m
   done : IsSynced before file (overwrite old at bytes) m → IsWriting before file at bytes old m
+
+-- what is left has what stands before a place, and these bytes one place behind it
+pub record HasBehind (old : List ℕ) (at : ℕ) (behind left : List ℕ) : Type 0 where
+  pub long : at + 1 + length behind ≤ length left
+  pub front : take at left ≡ take at old
+  pub there : piece (at + 1) (length behind) left ≡ behind
+
+-- what is left begins with what stands up to a place and there, or it has these bytes behind that place
+abbrev pub IsPut : List ℕ → ℕ → List ℕ → List ℕ → Type 0
+IsPut old at behind left = BeginsWith (at + 1) old left ⊎ HasBehind old at behind left

@@ -1,7 +1,6 @@
 pub mod Crash
 pub mod Faults
 pub mod Gated
-pub mod Batch
 pub mod Groups
 pub mod Rewriting
 pub mod Scan

@@ -24,6 +24,11 @@ body_of epoch payloads = eight_bytes epoch ++ spelled payloads ++ 0 ∷ []
 abbrev pub IsClosedOrOld : List ℕ → List ℕ → Type 0
 IsClosedOrOld old left = (is_open left ≡ false) ⊎ ((is_open old ≡ true) × (epoch_of left ≡ epoch_of old))
 
+-- what is left of a file whose header gate is closed was born where the file was, and is one of these
+pub record IsClosing (old left : List ℕ) : Type 0 where
+  pub birth : is_born left ≡ is_born old
+  pub header : IsClosedOrOld old left
+
 -- What is left of a file that is written anew was born where the file was. It isn't open; or the file was open and it
 -- still has its epoch; or all that is new stands behind its header gate.
 pub record IsRewriting (old body left : List ℕ) : Type 0 where

@@ -10,6 +10,7 @@
 //! While a file is made anew, nothing is promised of what a crash leaves of it.
 #![tactic(auto)]
 
+mod batch;
 mod found;
 mod gate_fault;
 mod gated;
@@ -22,7 +23,9 @@ mod start;
 mod window;
 mod writing;
 
+pub use batch::Batch;
 pub use gate_fault::GateFault;
 pub use gated::{Front, Gated};
 pub use laws::groups_are_spelled;
 pub use part::Part;
+pub use start::rewrite;
