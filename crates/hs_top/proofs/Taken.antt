@@ -50,3 +50,10 @@ fresh_whole r input limit none first all =
     ap (λ (n : ℕ). items_from no_items n Between [] (take (room r) (ahead r ++ input))) first
     ∙ ap (λ (k : ℕ). whole_items 1 (take k (ahead r ++ input))) all
     ∙ ap (λ (l : List ℕ). whole_items 1 (take limit (l ++ input))) none
+
+-- at the end none is taken from those that are whole
+pub taken_none : (item : Item) (before after : List Item) → is_end item ≡ true → TakesWhole before item after → ⊥
+taken_none (Entry n s t a) before after end is = absurd (cc)
+taken_none (Bad n) before after end is = absurd (cc)
+taken_none (TooLong n) before after end is = absurd (cc)
+taken_none End before after end is = is

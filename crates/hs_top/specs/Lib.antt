@@ -13,4 +13,5 @@ pub mod Sessions
 pub mod Spelling
 pub mod Statement
 pub mod Status
+pub mod Stop
 pub mod Acknowledged

@@ -19,6 +19,7 @@ mod sessions;
 mod statement;
 mod statement_log;
 mod status;
+mod stop;
 mod table;
 mod values;
 mod work;

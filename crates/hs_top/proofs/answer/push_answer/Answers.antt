@@ -6,7 +6,8 @@ use Rattle.hs_machine.specs.Replies.{rows_lines}
 use Rattle.hs_machine.proofs.Lines.{printed-append, one_printed}
 use Rattle.hs_top.specs.Answers.{answer_lines}
 use Rattle.hs_top.specs.Machine.{WritesPrefix}
-use Rattle.hs_host.specs.Moments.{Since, IsPrinted}
+use Rattle.hs_host.specs.Moments.{Since}
+use Rattle.hs_top.specs.Holding.{IsHandedOver}
 use Rattle.hs_host.proofs.Passing.{since_none}
 use Rattle.hs_top.proofs.Holding.{told_and}
 use Rattle.hs_top.proofs.Prefixes.{front_more, nothing_yet, extended}
@@ -51,10 +52,10 @@ returns-clause-done g c = λ told.
     ∙ sym (ap (λ (l : List ℕ). g.H.Host.written c.args.host.now ++ (c.args.output.now ++ l)) (answer_printed g (goal.at.returns-clause-done g c).After-push_rows))
 
 told_rows : (g : _) (c : After-push_rows g) → g.H.Source.tells
-    → Since (IsPrinted (g.H.Host.history c.args.host.now).now (c.args.output.now ++ printed (answer_lines c.args.number c.args.session.now c.args.table.now))) (g.H.Host.history c.args.host.now) (g.H.Host.history c.push_rows.new.host)
+    → Since (IsHandedOver (g.H.Host.history c.args.host.now).now (c.args.output.now ++ printed (answer_lines c.args.number c.args.session.now c.args.table.now))) (g.H.Host.history c.args.host.now) (g.H.Host.history c.push_rows.new.host)
 told_rows g c told =
-    let Q : List (List Value) → Type 0 = λ rows. Since (IsPrinted (g.H.Host.history c.args.host.now).now (c.args.output.now ++ printed (rows_lines c.args.number c.args.session.now rows))) (g.H.Host.history c.args.host.now) (g.H.Host.history c.push_rows.new.host) in
-    subst (λ (l : List ℕ). Since (IsPrinted (g.H.Host.history c.args.host.now).now (c.args.output.now ++ l)) (g.H.Host.history c.args.host.now) (g.H.Host.history c.push_rows.new.host)) (sym (answer_printed g c))
+    let Q : List (List Value) → Type 0 = λ rows. Since (IsHandedOver (g.H.Host.history c.args.host.now).now (c.args.output.now ++ printed (rows_lines c.args.number c.args.session.now rows))) (g.H.Host.history c.args.host.now) (g.H.Host.history c.push_rows.new.host) in
+    subst (λ (l : List ℕ). Since (IsHandedOver (g.H.Host.history c.args.host.now).now (c.args.output.now ++ l)) (g.H.Host.history c.args.host.now) (g.H.Host.history c.push_rows.new.host)) (sym (answer_printed g c))
     (told_and c.args.output.now _ _ (subst Q (in_order g c) (c.push_rows.ensures.moments told)))
 
 pub returns-in_err-rows-clause-moments : goal.returns-in_err-rows-clause-moments
