@@ -1,11 +1,11 @@
 -- Lines behind others.
-use Rattle.std.proofs.Common.{◌≡◌, ℕ, ◌≤◌, max, true, List, [], ◌∷◌, ◌++◌, refl, sym, ap, ◌∙◌, arith, append_assoc, append-nil}
+use Rattle.std.proofs.Common.{◌≡◌, ℕ, ◌≤◌, true, List, [], ◌∷◌, ◌++◌, refl, sym, ap, ◌∙◌, arith, append_assoc, append-nil}
 use Rattle.std.proofs.Math.Nat.{max-le, le-max_left, le-max_right}
 use Rattle.hs_values.specs.declared.value.Value.{Value}
 use Rattle.hs_entries.specs.Parts.{lacks}
 use Rattle.hs_machine.specs.Lines.{Line, printed_line, printed}
 use Rattle.hs_machine.specs.Replies.{rows_lines}
-use Rattle.hs_machine.specs.Acknowledged.{acknowledged, acks, IsPlain, ArePlain}
+use Rattle.hs_machine.specs.Acknowledged.{acknowledged, acks, ArePlain}
 
 pub printed-append : (a b : List Line) → printed (a ++ b) ≡ printed a ++ printed b
 printed-append [] b = refl

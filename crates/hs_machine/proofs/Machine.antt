@@ -1,6 +1,6 @@
 -- How what is left of a run goes on from turn to turn, over any machine.
-use Rattle.std.proofs.Common.{◌≡◌, ℕ, zero, suc, ◌+◌, ◌<◌, ◌≤◌, Bool, true, List, [], ◌∷◌, ◌++◌, length, Option, None, Some, refl, sym, ap, subst, ◌∙◌, arith, append_assoc, length-append}
-use Rattle.hs_machine.specs.Lines.{Line, ClosedAt}
+use Rattle.std.proofs.Common.{◌≡◌, ℕ, zero, suc, ◌+◌, ◌≤◌, Bool, true, [], ◌∷◌, ◌++◌, length, Option, None, Some, refl, sym, ap, subst, ◌∙◌, arith, append_assoc, length-append}
+use Rattle.hs_machine.specs.Lines.{ClosedAt}
 use Rattle.hs_machine.specs.Acknowledged.{acks, ArePlain}
 use Rattle.hs_machine.specs.Machine.{Turn, Machine, still, followed, after, whole, rest_of, IsLawful, IsTelling}
 use Rattle.hs_machine.proofs.Lines.{acks_behind, plain_behind}

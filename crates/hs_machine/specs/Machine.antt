@@ -42,7 +42,7 @@ module _ {State Commit : Type 0} (m : Machine State Commit) where
   rest_of s = (whole s).lines ++ ClosedAt (m.commits (whole s).next) ∷ []
 
   -- all that is told of a run that begins in a state: the first line, and what follows
-  unfoldable pub transcript : State → List Line
+  abbrev pub transcript : State → List Line
   transcript s = OpenedAt (m.commits s) ∷ rest_of s
 
   -- each turn lowers the weight, and counts its commits

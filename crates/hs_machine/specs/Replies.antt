@@ -1,6 +1,5 @@
 -- The lines of a reply: the rows of its answer, and then the line with `ok` or `refused`.
 use Rattle.std.specs.Prelude.{◌≡◌, ℕ, Bool, true, false, List, [], ◌∷◌, ◌++◌, map, Option, None, Some}
-use Rattle.std.specs.Option.{option_map}
 use Rattle.hs_base.specs.declared.numbers.CommitNo.{CommitNo}
 use Rattle.hs_values.specs.declared.value.Value.{Value}
 use Rattle.hs_machine.specs.declared.reply.Reply.{Reply}

@@ -10,7 +10,7 @@ ghost use Rattle.hs_top.specs.Damaged.{HasFirstEpoch, IsFirstDamage};
 ghost use Rattle.hs_top.specs.Database.{executed, first_repeated, is_among, named_by, table_of, Repeats};
 ghost use Rattle.hs_entries.specs.declared.item.Item.{Item};
 ghost use Rattle.hs_entries.specs.Items.{items};
-ghost use Rattle.hs_machine.specs.Machine.{IsLawful, IsTelling};
+ghost use Rattle.hs_machine.specs.Machine.{IsLawful as IsLawfulMachine, IsTelling};
 ghost use Rattle.hs_machine.specs.Replies.{HasOneReply, is_commit};
 ghost use Rattle.hs_top.specs.Acknowledged.{are_named, has_names, number_of, session_of};
 ghost use Rattle.hs_top.specs.Machine.{State, step_of, one_by_one};
@@ -23,7 +23,7 @@ ghost use Rattle.hs_top.specs.CommitText.{commit_text, commit_of, IsSession, IsL
 /// commits that it logs; and it tells of none that it didn't make. A name of a session in the items of an input has no line
 /// feed, so that each line ends with the only one in it.
 pub fn the_program_takes_turns()
-    ensures lawful { IsLawful one_by_one }
+    ensures lawful { IsLawfulMachine one_by_one }
     ensures telling { IsTelling one_by_one has_names }
     ensures named { (input : List ℕ) → are_named (items 1 input) ≡ true }
 {}

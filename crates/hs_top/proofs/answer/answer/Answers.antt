@@ -67,11 +67,11 @@ failed g c told honest calm named least before rest t =
     let all = subst (λ (o : List ℕ). IsGathered before o c.args.output.now c.args.work.now.database.commits) (sym out) t.gathered in
     since_join (done g (goal.at.After-hand_over g c).After-perform told honest calm named least before rest t)
     (since_weaker (c.hand_over.ensures.moments told)
-    (λ m printed. held_failed (g.H.Host.files c.args.host.now) (g.H.Host.history c.args.host.now) c.args.work.now.log c.requires.whole.sound (c.requires.logged told honest) calm least before c.args.work.now.database.commits t.enough t.counted
+    (λ m handing. held_failed (g.H.Host.files c.args.host.now) (g.H.Host.history c.args.host.now) c.args.work.now.log c.requires.whole.sound (c.requires.logged told honest) calm least before c.args.work.now.database.commits t.enough t.counted
     c.args.output.now (printed step.lines) step.texts rest (g.H.Host.history c.perform.new.host).now m all
     (g.met.H.Host.output_now c.perform.new.host told ∙ unsaid.1 ∙ sym out)
     (since_now (c.perform.ensures.moments told honest calm))
-    (subst (λ (l : List ℕ). IsPrinted (g.H.Host.history c.perform.new.host).now l m) unsaid.0 printed)))
+    (subst (λ (l : List ℕ). IsPrinted (g.H.Host.history c.perform.new.host).now l m) unsaid.0 handing)))
 
 pub returns-in-Err-clause-moments : goal.returns-in-Err-clause-moments
 returns-in-Err-clause-moments g c = done g (goal.at.returns-in-Err-clause-moments g c).After-perform
