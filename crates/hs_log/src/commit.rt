@@ -20,6 +20,7 @@ use hs_values::Bytes;
 /// the host failed. `NoMemory` is handed on from the host, and comes where the places don't fit in 64 bits.
 pub fn log_commit<H: Host>(journal: &mut Gated, host: &mut H, line: &Bytes) -> Result<(), GateFault>
     requires opened { IsOpen (H.standing host.old) }
+    requires file { journal.old.file ≡ Log }
     requires log { Told H.Source H.Host.own host.old → IsLog (H.history host.old) (H.files host.old) journal.old }
     ensures changes { ChangesFile H.Source H.Host.own Log (HasNoneOrAll journal.old.epoch (texts_of (H.files host.old).log) (line.now ∷ [])) host.old host.new }
     ensures fails { FailsWith (H.disk_faults host.old) (H.disk_faults host.new) result }
@@ -41,6 +42,7 @@ pub fn log_commit<H: Host>(journal: &mut Gated, host: &mut H, line: &Bytes) -> R
 /// the host failed. `NoMemory` is handed on from the host, and comes where the places don't fit in 64 bits.
 pub fn log_commits<H: Host>(journal: &mut Gated, host: &mut H, lines: &Batch) -> Result<(), GateFault>
     requires opened { IsOpen (H.standing host.old) }
+    requires file { journal.old.file ≡ Log }
     requires log { Told H.Source H.Host.own host.old → IsLog (H.history host.old) (H.files host.old) journal.old }
     ensures changes { ChangesFile H.Source H.Host.own Log (HasNoneOrAll journal.old.epoch (texts_of (H.files host.old).log) lines.now) host.old host.new }
     ensures fails { FailsWith (H.disk_faults host.old) (H.disk_faults host.new) result }
