@@ -1,9 +1,14 @@
 -- The log with more texts.
-use Rattle.std.proofs.Common.{◌≡◌, ◌⊎◌, inl, inr, ℕ, ◌+◌, Bool, true, false, List, ◌++◌, length, refl, sym, ◌∙◌, ap}
+use Rattle.std.proofs.Common.{◌≡◌, ◌⊎◌, inl, inr, ℕ, ◌+◌, Bool, true, false, List, ◌++◌, length, sym, subst, ◌∙◌, ap}
 use Rattle.hs_host.specs.declared.file_kind.FileKind.{FileKind}
 use Rattle.hs_host.specs.declared.file_kind.FileKind.TheVariants.{Log}
-use Rattle.hs_host.specs.Files.{Five, of}
-use Rattle.hs_host.specs.Moments.{History}
+use Rattle.hs_host.specs.declared.source.Source as source
+use Rattle.hs_host.specs.declared.host.Host as host
+use Rattle.hs_host.specs.Files.{Five, of, IsOnly}
+use Rattle.hs_host.specs.Moments.{History, Since, OneFile}
+use Rattle.hs_host.specs.Used.{Told, ChangesFile}
+use Rattle.hs_host.proofs.Changing.{one_weaker}
+use Rattle.hs_host.proofs.Passing.{since_weaker}
 use Rattle.hs_gate.specs.declared.gated.Gated.{Gated}
 use Rattle.hs_gate.specs.Crash.{HasSameHeader, HasMore, IsBeforeOrAfter, StandsOnDisk}
 use Rattle.hs_gate.specs.Gated.{IsGated, IsAtRest, grown}
@@ -59,3 +64,13 @@ log_more old new files now log after more is after_is has rest stands =
       record { file = file; born = there.header.birth ∙ is.born; rest = rest; calm = stands.calm },
       ap (λ (g : Groups). g.payloads) there.groups,
     )
+
+-- a change of the file that is the log
+pub as_log : {H : Type 0} {s : source.Ghosts H} {g : host.Ghosts H} {a b : H} (file : FileKind) (Q R : List ℕ → Type 0) → ChangesFile s g file Q a b
+    → (Told s g a → (file ≡ Log) × ((left : List ℕ) → Q left → R left)) → ChangesFile s g Log R a b
+as_log {H} {s} {g} {a} {b} file Q R ab f = record {
+  uses = ab.uses;
+  others = λ told. subst (λ (k : FileKind). IsOnly (g.files a) k (g.files b)) (f told).0 (ab.others told);
+  moments = λ told. subst (λ (k : FileKind). Since (OneFile (g.history a).now k R) (g.history a) (g.history b)) (f told).0
+      (since_weaker (ab.moments told) (λ m one. one_weaker (g.history a).now m file one (f told).1));
+}
