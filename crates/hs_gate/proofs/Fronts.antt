@@ -42,6 +42,16 @@ born_by new old same long enough =
     let other : nat_lt 0 (length old) ≡ true = lt-ltb 0 (length old) (omega (arith, enough)) in
     rw (some, other, same) refl
 
+no_too : (a : Bool) → (a && false) ≡ false
+no_too true = refl
+no_too false = refl
+
+unborn_zero : (bytes : List ℕ) → is_born (0 ∷ bytes) ≡ false
+unborn_zero bytes = no_too (nat_lt 0 (length (0 ∷ bytes)))
+
+pub unborn_over : (bytes : List ℕ) → is_born (overwrite bytes 0 (0 ∷ 1 ∷ 0 ∷ 0 ∷ 0 ∷ 0 ∷ 0 ∷ 0 ∷ 0 ∷ 1 ∷ 0 ∷ [])) ≡ false
+unborn_over bytes = unborn_zero (1 ∷ 0 ∷ 0 ∷ 0 ∷ 0 ∷ 0 ∷ 0 ∷ 0 ∷ 1 ∷ 0 ∷ drop 11 bytes)
+
 pub get_same : (n i : ℕ) (a b : List ℕ) → take n a ≡ take n b → i < n → get_or a i 0 ≡ get_or b i 0
 get_same n i a b same below = sym (get_or-take n a i 0 below) ∙ ap (λ (l : List ℕ). get_or l i 0) same ∙ get_or-take n b i 0 below
 

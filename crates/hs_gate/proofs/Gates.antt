@@ -121,11 +121,11 @@ new_piece (b ∷ front) body long = take_all (length body) body (omega arith)
 
 new_birth : (front body : List ℕ) → 2 ≤ length front → is_born (take 1 front ++ 1 ∷ body) ≡ is_born front
 new_birth [] body long = absurd (omega (arith, long))
-new_birth (b ∷ front) body long = refl
+new_birth (b ∷ front) body long = born_by (b ∷ 1 ∷ body) (b ∷ front) refl (omega arith) (omega arith)
 
 staged_birth : (front body : List ℕ) → 2 ≤ length front → is_born (take 2 front ++ body) ≡ is_born front
 staged_birth [] body long = absurd (omega (arith, long))
-staged_birth (b ∷ front) body long = refl
+staged_birth (b ∷ front) body long = born_by (take 2 (b ∷ front) ++ body) (b ∷ front) refl (omega arith) (omega arith)
 
 -- all that is new stands behind the header gate
 pub record IsAllNew (front body left : List ℕ) : Type 0 where

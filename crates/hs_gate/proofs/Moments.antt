@@ -80,3 +80,7 @@ any_at before m file p is = record { disk = p; is = is; each = λ left leaves. t
 pub any_writing : (before m : Moment) (file : FileKind) (at : ℕ) (new old : List ℕ) → IsWriting before file at new old m → OneFile before file IsAny m
 any_writing before m file at new old (called written) = any_at before m file (written_at at (length new) (disk_of before file)) written
 any_writing before m file at new old (done synced) = any_at before m file (settled (overwrite old at new)) synced
+
+pub any_synced : {T : Type 0} (before m : Moment) (file : FileKind) (bytes : List ℕ) (result : Result T HostFault) → IsSyncing before file bytes result m → OneFile before file IsAny m
+any_synced before m file bytes (Ok x) is = any_at before m file (settled bytes) is
+any_synced before m file bytes (Err e) is = any_at before m file (disk_of before file) (same_disk before m file is)

@@ -173,7 +173,7 @@ broken_read bytes payloads small fits b =
     let end = 10 + length (spelled payloads) in
     let there : drop end bytes ≡ tail = sym (drop-drop (length (spelled payloads)) 10 bytes) ∙ ap (λ (l : List ℕ). drop (length (spelled payloads)) l) b.is ∙ drop_at (spelled payloads) tail (length (spelled payloads)) refl in
     let tail_small : AreBytes tail = rw there at (small_behind end bytes small) in
-    let long : length (spelled payloads ++ tail) < 2 ^ 64 = omega (arith, ap length b.is, length-drop 10 bytes, fits) in
+    let long : length (spelled payloads) < 2 ^ 64 = omega (arith, ap length b.is, length-append (spelled payloads) tail, length-drop 10 bytes, fits) in
     groups-drop 10 bytes
     ∙ ap (λ (l : List ℕ). groups_at 0 l) b.is
     ∙ groups_read payloads tail long (omega arith)

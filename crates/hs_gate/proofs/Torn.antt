@@ -1,22 +1,25 @@
 -- What a crash leaves of a gated file.
-use Rattle.std.proofs.Common.{◌≡◌, ◌⊎◌, ℕ, ◌+◌, ◌<◌, ◌≤◌, ◌^◌, ◌==◌, Bool, true, false, List, [], ◌∷◌, ◌++◌, length, take, drop, get_or, inl, inr, refl, sym, ◌∙◌, ap, subst, arith, append_assoc, length-append, take-append-drop}
-use Rattle.std.proofs.lemmas.List.{append-nil, take_at, drop-drop, drop_more, get_or-take, get_or-drop}
+use Rattle.std.proofs.Common.{◌≡◌, ◌⊎◌, ℕ, ◌+◌, ◌<◌, ◌≤◌, ◌^◌, ◌==◌, Bool, true, false, Result, Ok, Err, List, [], ◌∷◌, ◌++◌, length, take, drop, get_or, inl, inr, refl, sym, ◌∙◌, ap, subst, arith, append_assoc, length-append, take-append-drop}
+use Rattle.std.proofs.lemmas.List.{take_at, drop-drop, drop_more, get_or-take, get_or-drop}
 use Rattle.std.proofs.lemmas.Bool.{eqb-true}
 use Rattle.std.proofs.lemmas.Grind.{same_number_lists}
 use Rattle.hs_host.specs.declared.file_kind.FileKind.{FileKind}
 use Rattle.hs_host.specs.Files.{Five, of, piece, overwrite}
-use Rattle.hs_host.specs.Disk.{Pending, MayLeave, settled, written_at}
-use Rattle.hs_host.specs.Moments.{Moment, OneFile, disk_of}
+use Rattle.hs_host.specs.declared.host_fault.HostFault.{HostFault}
+use Rattle.hs_host.specs.Disk.{Pending, MayLeave, settled, written_at, cut_to}
+use Rattle.hs_host.specs.Prefixes.{KeepsPrefix}
+use Rattle.hs_host.specs.Moments.{Moment, History, OneFile, IsCut, IsSyncing, disk_of}
+use Rattle.hs_host.proofs.Changing.{same_disk}
 use Rattle.hs_host.proofs.Torn.{front_stays}
 use Rattle.hs_gate.specs.declared.gated.Gated.{Gated}
 use Rattle.hs_gate.specs.declared.found.Found.TheVariants.{Closed}
 use Rattle.hs_gate.specs.Groups.{spelled, end_of, groups_of, and_groups}
-use Rattle.hs_gate.specs.Gated.{IsGated, grown, appended}
+use Rattle.hs_gate.specs.Gated.{IsGated, appended}
 use Rattle.hs_gate.specs.Scan.{found_in}
 use Rattle.hs_gate.specs.Crash.{StandsOnDisk, IsAsBefore, IsBeforeOrAfter, BeginsWith, HasBehind, IsPut, IsWriting, called, done}
 use Rattle.hs_gate.proofs.Pieces.{take_same, length-piece, take-overwrite, drop-overwrite, length-overwrite, overwrite_before}
-use Rattle.hs_gate.proofs.Fronts.{end_within, groups_stay, groups_grow, front_groups, header_stays, append_gated}
-use Rattle.hs_gate.proofs.Moments.{settled_keeps, written_keeps}
+use Rattle.hs_gate.proofs.Fronts.{end_within, groups_stay, groups_grow, front_groups, header_stays}
+use Rattle.hs_gate.proofs.Moments.{settled_keeps, written_keeps, cut_keeps}
 
 -- what begins with the file up to the gate that ends its groups is read as it
 pub as_before : (files : Five (List ℕ)) (gated : Gated) (left : List ℕ) → IsGated files gated → BeginsWith (gated.end + 1) (of files gated.file) left → IsAsBefore (of files gated.file) left
@@ -117,6 +120,42 @@ put_groups files gated more tail left stands small is (inr has) =
       groups = gate_case left old rest more tail (get_or left end 0) (get_or left end 0 == 1) refl stands.whole small is (rw end_is at has.front) (rw end_is at longer) (ap (λ (n : ℕ). drop n left) (sym end_is) ∙ there);
     }
 
--- the bytes of a group or more behind its gate
-pub tail_of : (payload : List ℕ) (eight : List ℕ) → (1 ∷ eight ++ payload) ++ [] ≡ 1 ∷ (eight ++ payload)
-tail_of payload eight = append-nil (1 ∷ eight ++ payload)
+-- and what is then read
+pub append_put : (old : List ℕ) (end : ℕ) (more : List (List ℕ)) (tail new : List ℕ) → spelled more ≡ 1 ∷ tail → new ≡ overwrite old end (1 ∷ (tail ++ 0 ∷ [])) → new ≡ appended old end more
+append_put old end more tail new is put = put ∙ ap (λ (l : List ℕ). overwrite old end (l ++ 0 ∷ [])) (sym is)
+
+pub spelled_first : (more : List (List ℕ)) → 0 < length more → spelled more ≡ 1 ∷ drop 1 (spelled more)
+spelled_first [] some = absurd (omega (arith, some))
+spelled_first (p ∷ ps) some = refl
+
+-- a file that was just synced stands on the disk
+pub settled_stands : (h : History) (files : Five (List ℕ)) (gated : Gated) → IsGated files gated → disk_of h.now gated.file ≡ settled (of files gated.file) → StandsOnDisk h files gated
+settled_stands h files gated stands quiet = record {
+  stands = stands;
+  calm = subst (λ (p : Pending). KeepsPrefix p (gated.end + 1) (of files gated.file)) (sym quiet) (settled_keeps (of files gated.file) (of files gated.file) (gated.end + 1) (gate_within files gated stands) refl);
+}
+
+-- the sync of a file that was read, which may fail
+pub settle_synced : {T : Type 0} (before m : Moment) (files : Five (List ℕ)) (gated : Gated) (result : Result T HostFault) → IsGated files gated → IsSyncing before gated.file (of files gated.file) result m
+    → OneFile before gated.file (λ left. KeepsPrefix (disk_of before gated.file) (gated.end + 1) (of files gated.file) → IsAsBefore (of files gated.file) left) m
+settle_synced before m files gated (Ok x) stands is = record {
+  disk = settled (of files gated.file);
+  is = is;
+  each = λ left leaves calm. as_before files gated left stands
+      (front_stays (settled (of files gated.file)) (gated.end + 1) (of files gated.file) left (settled_keeps (of files gated.file) (of files gated.file) (gated.end + 1) (gate_within files gated stands) refl) leaves);
+}
+settle_synced before m files gated (Err e) stands is = record {
+  disk = disk_of before gated.file;
+  is = same_disk before m gated.file is;
+  each = λ left leaves calm. as_before files gated left stands (front_stays (disk_of before gated.file) (gated.end + 1) (of files gated.file) left calm leaves);
+}
+
+-- and then its cut behind the gate that ends its groups
+pub settle_cut : {P : Type 0} (before m : Moment) (files : Five (List ℕ)) (gated : Gated) (len : ℕ) → IsGated files gated → gated.end + 1 ≤ len → KeepsPrefix (disk_of before gated.file) (gated.end + 1) (of files gated.file) → IsCut before gated.file len m
+    → OneFile before gated.file (λ left. P → IsAsBefore (of files gated.file) left) m
+settle_cut before m files gated len stands le keeps is = record {
+  disk = cut_to len (disk_of before gated.file);
+  is = is;
+  each = λ left leaves any. as_before files gated left stands
+      (front_stays (cut_to len (disk_of before gated.file)) (gated.end + 1) (of files gated.file) left (cut_keeps (disk_of before gated.file) len (gated.end + 1) (of files gated.file) keeps le) leaves);
+}

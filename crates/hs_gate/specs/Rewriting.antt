@@ -33,7 +33,7 @@ pub record IsClosing (old left : List ℕ) : Type 0 where
 -- still has its epoch; or all that is new stands behind its header gate.
 pub record IsRewriting (old body left : List ℕ) : Type 0 where
   pub birth : is_born left ≡ is_born old
-  pub body : IsClosedOrOld old left ⊎ (piece 2 (length body) left ≡ body)
+  pub behind : IsClosedOrOld old left ⊎ (piece 2 (length body) left ≡ body)
 
 -- an open file of this epoch with these groups
 pub record IsGroups (epoch : ℕ) (payloads : List (List ℕ)) (bytes : List ℕ) : Type 0 where

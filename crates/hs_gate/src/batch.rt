@@ -1,5 +1,5 @@
 // Groups that are to be added together.
-ghost use Rattle.std.specs.Prelude.{◌≡◌, ◌↔◌, ℕ, List, [], ◌∷◌, ◌++◌, length, IsTrue, OnOk, OnErr};
+ghost use Rattle.std.specs.Prelude.{◌≡◌, ◌↔◌, ◌^◌, ◌<◌, [], ◌∷◌, ◌++◌, length, drop, IsTrue, OnOk, OnErr};
 ghost use Rattle.hs_gate.specs.Groups.{group, spelled};
 
 use std::alloc::{AllocError, Global};
@@ -76,12 +76,23 @@ impl Batch {
     {
         &self.bytes
     }
+
+    /// These bytes without the first gate, or none.
+    pub fn behind_first_gate(&self) -> &[u8]
+        ensures { result.now ≡ drop 1 (spelled self.now) }
+    {
+        match self.bytes.split_first() {
+            Some((_, behind)) => behind,
+            None => &[],
+        }
+    }
 }
 
 // Puts a group behind bytes. After an `Err`, which is want of memory, nothing is changed.
 fn push_group(bytes: &mut Vec<u8>, payload: &[u8]) -> Result<(), AllocError>
     ensures ok { OnOk result (bytes.new.items ≡ bytes.old.items ++ group payload.now) }
     ensures err { OnErr result (bytes.new.items ≡ bytes.old.items) }
+    ensures fits { length bytes.new.items < 2 ^ 64 }
 {
     let before = bytes.len();
     let mut head = [1; 9];

@@ -1,5 +1,5 @@
 // A gated file that was read.
-ghost use Rattle.std.specs.Prelude.{◌≡◌, ◌↔◌, ℕ, ◌+◌, ◌-◌, ◌<◌, ◌≤◌, [], ◌∷◌, length, take, None, Err, IfOk, IfSome, OnOk, OnErr, IsErrOf};
+ghost use Rattle.std.specs.Prelude.{◌≡◌, ◌↔◌, ℕ, ◌+◌, ◌-◌, ◌^◌, ◌<◌, ◌≤◌, [], ◌∷◌, length, take, None, Err, IfOk, IfSome, OnOk, OnErr, IsErrOf};
 ghost use Rattle.hs_host.specs.Files.{of, piece, IsOpen};
 ghost use Rattle.hs_host.specs.Used.{Told, ReadsFiles, ChangesFile};
 ghost use Rattle.hs_gate.specs.Crash.{IsCalm, StandsOnDisk, IsAsBefore, IsBeforeOrAfter, HasMore};
@@ -62,6 +62,7 @@ impl Gated {
         ensures payload { Told H.Source H.Host.own host.old → IfOk result (TakesPart (of (H.files host.old) self.now.file) at) }
         ensures none { IfOk result (λ part. part ≡ None ↔ at ≡ self.now.end) }
         ensures next { IfOk result (λ part. IfSome part (λ p. (p.next ≡ at + (9 + length p.payload)) × (p.next ≤ self.now.end))) }
+        ensures whole { Told H.Source H.Host.own host.old → (number : ℕ) → IsErrOf result (GateFault.Broken number) → ⊥ }
         ensures broken { (number : ℕ) → IsErrOf result (GateFault.Broken number) → number ≡ at }
         ensures no_group { H.tells → (number : ℕ) → IsErrOf result (GateFault.Broken number) → HasNoGroup (piece at (self.now.end - at + 1) (of (H.files host.new) self.now.file)) }
         ensures reads { ReadsFiles H.Source H.Host.own host.old host.new }
@@ -108,7 +109,8 @@ impl Gated {
         ensures stands { Told H.Source H.Host.own host.old → OnOk result (StandsOnDisk (H.history host.new) (H.files host.new) self.new) }
     {
         let size = payload.len() as u64;
-        let grown = self.grown(1, sum(9, size)?)?;
+        let added = sum(9, size)?;
+        let grown = self.grown(1, added)?;
         let length = size.to_be_bytes();
         write_behind_gate(host, self.file, self.end, &length, payload)?;
         *self = grown;
@@ -138,9 +140,10 @@ impl Gated {
         ensures at_rest { Told H.Source H.Host.own host.old → OnOk result (IsAtRest (H.files host.old) self.old → IsAtRest (H.files host.new) self.new) }
         ensures stands { Told H.Source H.Host.own host.old → OnOk result (StandsOnDisk (H.history host.new) (H.files host.new) self.new) }
     {
-        let spelled = batch.spelled();
-        let grown = self.grown(batch.count(), spelled.len() as u64)?;
-        write_behind_gate(host, self.file, self.end, &[], &spelled[1..])?;
+        let size = batch.spelled().len() as u64;
+        let grown = self.grown(batch.count(), size)?;
+        let behind = batch.behind_first_gate();
+        write_behind_gate(host, self.file, self.end, &[], behind)?;
         *self = grown;
         Ok(())
     }
@@ -148,6 +151,7 @@ impl Gated {
     // What it will be with more groups, so many and of so many bytes. An `Err` is that the places don't fit in 64 bits.
     fn grown(&self, count: u64, size: u64) -> Result<Gated, GateFault>
         ensures ok { IfOk result (λ gated. gated ≡ record self.now { groups = self.now.groups + count; end = self.now.end + size }) }
+        ensures fits { IfOk result (λ gated. self.now.end + size < 2 ^ 64) }
         ensures err { OnErr result (result ≡ Err GateFault.NoMemory) }
     {
         let groups = sum(self.groups, count)?;

@@ -55,7 +55,8 @@ impl Gated {
         write(host, file, 0, &unborn)?;
         cut(host, file, unborn.len() as u64)?;
         sync(host, file)?;
-        write_synced(host, file, 0, &[1])?;
+        write(host, file, 0, &[1])?;
+        sync(host, file)?;
         Ok(Gated::empty(file, 1))
     }
 

@@ -1,5 +1,5 @@
 -- What is used by one call and then by another.
-use Rattle.std.proofs.Common.{◌≡◌, ℕ, List, sym, ◌∙◌, ap, subst, arith}
+use Rattle.std.proofs.Common.{◌≡◌, ℕ, List, refl, sym, ◌∙◌, ap, subst, arith}
 use Rattle.hs_host.specs.declared.file_kind.FileKind.{FileKind}
 use Rattle.hs_host.specs.declared.source.Source as source
 use Rattle.hs_host.specs.declared.host.Host as host
@@ -8,7 +8,7 @@ use Rattle.hs_host.specs.Disk.{Leaves}
 use Rattle.hs_host.specs.Moments.{Moment, History, disk_of}
 use Rattle.hs_host.specs.Used.{Told, UsesDisk, UsesOutput, UsesInput, UsesAll, ReadsFiles, Moves, ChangesFile}
 use Rattle.hs_host.proofs.Files.{with_of, with_with}
-use Rattle.hs_host.proofs.Passing.{since_join, since_weaker, still_on, reading_on}
+use Rattle.hs_host.proofs.Passing.{since_none, since_join, since_weaker, still_on, reading_on}
 use Rattle.hs_host.proofs.Changing.{one_on, one_weaker, still_left}
 
 pub told_on : {H : Type 0} {s : source.Ghosts H} {g : host.Ghosts H} {a b : H} → UsesDisk s g a b → Told s g a → Told s g b
@@ -16,6 +16,13 @@ told_on used told = record { tells = told.tells; honest = subst IsHonest (sym us
 
 pub told_back : {H : Type 0} {s : source.Ghosts H} {g : host.Ghosts H} {a b : H} → UsesDisk s g a b → Told s g b → Told s g a
 told_back used told = record { tells = told.tells; honest = subst IsHonest used.standing told.honest }
+
+-- nothing was used
+pub uses_none : {H : Type 0} {s : source.Ghosts H} {g : host.Ghosts H} (a : H) → UsesDisk s g a a
+uses_none a = record { standing = refl; unread = refl; input_faults = refl; written = refl; output_faults = refl; disk_later = omega arith }
+
+pub moves_none : {H : Type 0} {s : source.Ghosts H} {g : host.Ghosts H} (file : FileKind) (P : Moment → Type 0) (a : H) → Moves s g file P a a
+moves_none {H} {s} {g} file P a = record { uses = uses_none a; others = λ told. sym (with_of (g.files a) file); moments = λ told. since_none P (g.history a) }
 
 -- what was used by one call and then by the next
 pub uses_on : {H : Type 0} {s : source.Ghosts H} {g : host.Ghosts H} {a b c : H} → UsesDisk s g a b → UsesDisk s g b c → UsesDisk s g a c

@@ -1,5 +1,5 @@
 // Adds commits to the log.
-ghost use Rattle.std.specs.Prelude.{◌≡◌, [], ◌∷◌, ◌++◌, OnOk, OnErr};
+ghost use Rattle.std.specs.Prelude.{◌≡◌, ◌<◌, [], ◌∷◌, ◌++◌, length, OnOk, OnErr};
 ghost use Rattle.hs_host.specs.declared.file_kind.FileKind.TheVariants.{Log};
 ghost use Rattle.hs_host.specs.Files.{IsOpen};
 ghost use Rattle.hs_host.specs.Used.{Told, ChangesFile};
@@ -31,7 +31,7 @@ pub fn log_commit<H: Host>(journal: &mut Gated, host: &mut H, line: &Bytes) -> R
     journal.append(host, line.as_slice())
 }
 
-/// Adds several commits, whose texts these are, behind the texts of the log. Its bytes are as if each had been added
+/// Adds several commits, of which these are the texts and there is at least one, behind the texts of the log. Its bytes are as if each had been added
 /// alone.
 ///
 /// At each moment on the way a crash leaves a log of the same texts, or of these and all of the new ones. After an `Ok`
@@ -41,6 +41,7 @@ pub fn log_commit<H: Host>(journal: &mut Gated, host: &mut H, line: &Bytes) -> R
 /// the host failed. `NoMemory` is handed on from the host, and comes where the places don't fit in 64 bits.
 pub fn log_commits<H: Host>(journal: &mut Gated, host: &mut H, lines: &Batch) -> Result<(), GateFault>
     requires opened { IsOpen (H.standing host.old) }
+    requires some { 0 < length lines.now }
     requires log { Told H.Source H.Host.own host.old → IsLog (H.history host.old) (H.files host.old) journal.old }
     ensures changes { ChangesFile H.Source H.Host.own Log (HasNoneOrAll journal.old.epoch (texts_of (H.files host.old).log) lines.now) host.old host.new }
     ensures fails { FailsWith (H.disk_faults host.old) (H.disk_faults host.new) result }

@@ -15,7 +15,7 @@ wrote : (g : _) (c : After-write g) → ChangesFile g.H.Source g.H.Host c.args.f
 wrote g c = moves_weaker c.write.ensures.moves (λ told m is. begins_written _ m c.args.file c.args.at _ c.args.at _ (c.requires.kept told).keeps (omega arith) is)
 
 keeps : (g : _) (c : After-cut g) → Told g.H.Source g.H.Host c.args.host.now → KeepsPrefix (disk_of (g.H.Host.history c.write.new.host).now c.args.file) c.args.at (of (g.H.Host.files c.args.host.now) c.args.file)
-keeps g c told = keeps_written _ _ c.args.file c.args.at _ c.args.at _ (c.requires.kept told).keeps (omega arith) (c.in_ok-write.ensures.now told)
+keeps g c told = keeps_written (g.H.Host.history c.args.host.now).now (g.H.Host.history c.write.new.host).now c.args.file c.args.at _ c.args.at _ (c.requires.kept told).keeps (omega arith) (c.in_ok-write.ensures.now told)
 
 cut_off : (g : _) (c : After-cut g) → ChangesFile g.H.Source g.H.Host c.args.file (BeginsWith c.args.at (of (g.H.Host.files c.args.host.now) c.args.file)) c.args.host.now c.cut.new.host
 cut_off g c = changes_on (wrote g (goal.at.After-cut g c).After-write) (moves_weaker c.cut.ensures.moves (λ later m is.
@@ -32,7 +32,7 @@ synced g c =
     let within = (c.requires.kept told).within in
     let now : of (g.H.Host.files c.cut.new.host) c.args.file ≡ take c.args.at old ++ c.args.bytes.now =
     c.in_ok-cut.ensures.ok later ∙ ap (λ (l : List ℕ). take (c.args.at + length c.args.bytes.now) l) (c.in_ok-write.ensures.ok told) ∙ cut-overwrite old c.args.at c.args.bytes.now within in
-    begins_synced _ m c.args.file c.args.at _ old c.sync.result (keeps_cut _ _ c.args.file _ c.args.at _ (keeps g at told) (omega arith) (c.in_ok-cut.ensures.now later))
+    begins_synced _ m c.args.file c.args.at _ old c.sync.result (keeps_cut (g.H.Host.history c.write.new.host).now (g.H.Host.history c.cut.new.host).now c.args.file _ c.args.at _ (keeps g at told) (omega arith) (c.in_ok-cut.ensures.now later))
     (omega (arith, ap length now, length-append (take c.args.at old) c.args.bytes.now, length-take-le c.args.at old within))
     (ap (λ (l : List ℕ). take c.args.at l) now ∙ front_of c.args.at old c.args.bytes.now within) is))
 
