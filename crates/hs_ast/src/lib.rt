@@ -7,6 +7,7 @@ mod copies;
 mod copies_of_statements;
 mod definition;
 mod expression;
+mod laws;
 mod literal;
 mod query;
 mod session;
@@ -23,6 +24,7 @@ pub use expression::{
     Aggregate, BinaryOperator, CaseArm, ColumnName, Condition, DateField, Expression,
     ExpressionKind, Function, IntervalUnit, Sign, TrimForm,
 };
+pub use laws::{alike_trees_differ_in_places_alone, places_are_set_anew};
 pub use literal::{Literal, Number};
 pub use query::{
     FromItem, Join, Limit, Query, QueryBody, Select, SelectItem, SetOperator, SortKey,
