@@ -1,5 +1,5 @@
 -- Lawful trees: the names, numbers and types in them are such as the language has.
-use Rattle.std.specs.Prelude.{◌≡◌, ℕ, ◌+◌, ◌^◌, ℤ, pos, negsuc, Bool, true, false, not, ◌&&◌, ◌||◌, ◌==◌, nat_le, nat_lt, List, [], ◌∷◌, length, Option, None, Some}
+use Rattle.std.specs.Prelude.{◌≡◌, ℕ, ◌+◌, ◌^◌, ℤ, pos, negsuc, Bool, true, false, not, ◌&&◌, ◌||◌, ◌==◌, nat_le, nat_lt, List, length, Option, None, Some}
 use Rattle.std.specs.List.{list_all}
 use Rattle.hs_ast.specs.declared.expression.Expression.{Expression, fold-Expression}
 use Rattle.hs_ast.specs.declared.expression.ColumnName.{ColumnName}

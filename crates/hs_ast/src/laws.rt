@@ -1,7 +1,8 @@
 //! Laws of trees, each on a function that does nothing.
 ghost use Rattle.std.specs.Prelude.{◌≡◌, ◌↔◌, ℕ};
 ghost use Rattle.hs_ast.specs.Places.{placed, placed_query, placed_statement, AreAlike, AreAlikeQueries, AreAlikeStatements};
-ghost use Rattle.hs_ast.specs.Lawful.{IsLawful};
+ghost use Rattle.hs_ast.specs.Depth.{depth_of, query_depth_of};
+ghost use Rattle.hs_ast.specs.Lawful.{is_lawful, is_lawful_query};
 ghost use Rattle.hs_ast.specs.declared.expression.Expression.{Expression};
 ghost use Rattle.hs_ast.specs.declared.query.Query.{Query};
 ghost use Rattle.hs_ast.specs.declared.statement.Stmt.{Stmt};
@@ -18,4 +19,12 @@ pub fn alike_trees_differ_in_places_alone()
     ensures expressions { (p : ℕ) (a b : Expression) → AreAlike a b ↔ (placed p a ≡ placed p b) }
     ensures queries { (p : ℕ) (a b : Query) → AreAlikeQueries a b ↔ (placed_query p a ≡ placed_query p b) }
     ensures statements { (p : ℕ) (a b : Stmt) → AreAlikeStatements a b ↔ (placed_statement p a ≡ placed_statement p b) }
+{}
+
+/// Trees that are equal but for places have the same depth, and are lawful together.
+pub fn places_make_no_depth_and_break_no_law()
+    ensures depth { (a b : Expression) → AreAlike a b → depth_of a ≡ depth_of b }
+    ensures query_depth { (a b : Query) → AreAlikeQueries a b → query_depth_of a ≡ query_depth_of b }
+    ensures lawful { (a b : Expression) → AreAlike a b → is_lawful a ≡ is_lawful b }
+    ensures lawful_query { (a b : Query) → AreAlikeQueries a b → is_lawful_query a ≡ is_lawful_query b }
 {}

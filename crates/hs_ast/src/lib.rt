@@ -24,7 +24,9 @@ pub use expression::{
     Aggregate, BinaryOperator, CaseArm, ColumnName, Condition, DateField, Expression,
     ExpressionKind, Function, IntervalUnit, Sign, TrimForm,
 };
-pub use laws::{alike_trees_differ_in_places_alone, places_are_set_anew};
+pub use laws::{
+    alike_trees_differ_in_places_alone, places_are_set_anew, places_make_no_depth_and_break_no_law,
+};
 pub use literal::{Literal, Number};
 pub use query::{
     FromItem, Join, Limit, Query, QueryBody, Select, SelectItem, SetOperator, SortKey,
