@@ -24,6 +24,7 @@ for ((number = 1; number < 1000; number++)); do
     if [ "$status" = 0 ]; then
         cmp -s "$top/examples/first.out" "$work/output" || fail "at allocation $number the output isn't whole"
         [ ! -s "$work/errors" ] || fail "at allocation $number standard error has '$(cat "$work/errors")'"
+        [ "$number" -gt 1 ] || fail "no allocation was refused: is this program linked with another allocator?"
         pass
         done_with "each allocation refused in turn, with a prefix of the output, $prefixes of them not empty"
         exit 0

@@ -6,8 +6,9 @@
 . "$(dirname "$(readlink -f "$0")")/shared.sh"
 needs strace
 cd "$work"
-if [ ! -x "$top/crates/hsql/out/hsql" ]; then
-    "$top/bin/hsql" built </dev/null >/dev/null
+if [ -n "${HSQL_PROGRAM:-}" ]; then
+    done_with "nothing, as the command runs the proved program and no other"
+    exit 0
 fi
 mkdir bin more
 ln -s "$top/bin/hsql" bin/hsql

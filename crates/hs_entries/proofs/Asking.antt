@@ -1,5 +1,5 @@
 -- How the reads of a call follow one another.
-use Rattle.std.proofs.Common.{◌≡◌, ◌⊎◌, inl, inr, ℕ, ◌+◌, ◌≤◌, ◌<◌, ◌||◌, ◌&&◌, nat_lt, Bool, true, false, List, [], ◌∷◌, ◌++◌, length, take, Option, None, Some, Result, Ok, Err, IsErrAnd, refl, sym, ap, subst, append_assoc, append-nil, ◌∙◌, arith}
+use Rattle.std.proofs.Common.{◌≡◌, ◌⊎◌, inl, inr, ℕ, ◌+◌, ◌≤◌, ◌<◌, ◌||◌, ◌&&◌, nat_lt, Bool, true, false, List, [], ◌∷◌, ◌++◌, length, take, Option, None, Some, Result, Ok, Err, IsErrAnd, MatchResult, refl, sym, ap, subst, append_assoc, append-nil, ◌∙◌, arith}
 use Rattle.std.proofs.lemmas.List.{take_all}
 use Rattle.std.proofs.lemmas.Bool.Decides.{nat_tests}
 use Rattle.hs_entries.specs.declared.input_fault.InputFault.{InputFault}
@@ -31,6 +31,11 @@ and_true_false false h = refl
 
 true_false : {b : Bool} → b ≡ true → b ≡ false → ⊥
 true_false is isnt = let no : true ≡ false = sym is ∙ isnt in cc
+
+-- what holds at an `Err`
+pub match_err : {A B : Type 0} (result : Result A B) (P : B → Type 0) (Q R : Type 0) → IsErrAnd result P → R → MatchResult result (λ _. Q) (λ _. R)
+match_err (Ok a) P Q R h r = absurd h
+match_err (Err e) P Q R h r = r
 
 -- what is left needs more bytes where what it comes to needs them
 pub needs_on : (a b : Left) → Continues a b → NeedsMore b → NeedsMore a

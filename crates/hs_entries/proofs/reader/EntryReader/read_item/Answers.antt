@@ -2,7 +2,7 @@ use Rattle.std.proofs.Common.{rules, ◌≡◌, ◌+◌, ◌++◌, ℕ, List, []
 use Rattle.hs_entries.specs.declared.reader.EntryReader.{EntryReader}
 use Rattle.hs_entries.specs.declared.place.Place.TheVariants.{Between}
 use Rattle.hs_entries.specs.Asking.{Gathers}
-use Rattle.hs_entries.proofs.Asking.{gathers_on, gathers_then, gathers_then_asks, asked_some, asked_none}
+use Rattle.hs_entries.proofs.Asking.{gathers_on, gathers_then, gathers_then_asks, asked_some, match_err, asked_none}
 use Rattle.hs_entries.proofs.LeftSteps.{continues_trans, continues_beyond, continues_same, limit_beyond}
 use Rattle.hs_entries.specs.Reader.{ahead, room, left_over}
 use Rattle.hs_entries.proofs.reader.EntryReader.read_item.Goals as goal
@@ -28,9 +28,9 @@ looked_so_far reads before here looked a b so_far count_is ahead_is room_is =
 
 pub returns-in_err-item-clause-needed : goal.returns-in_err-item-clause-needed
 returns-in_err-item-clause-needed g c =
-    gathers_then_asks g.S.Source.reads (left_over c.args.self.now) (left_over c.look.new.self) true c.args.source.now c.items.source c.read_on.new.source
+    match_err c.from_residual-in_err-item.result _ _ _ c.from_residual-in_err-item.ensures.1 (gathers_then_asks g.S.Source.reads (left_over c.args.self.now) (left_over c.look.new.self) true c.args.source.now c.items.source c.read_on.new.source
     (looked_so_far g.S.Source.reads c.args.self.now c.items.self c.look.new.self c.args.source.now c.items.source c.items.invariant.gathers
-    c.look.ensures.count c.look.ensures.ahead c.look.ensures.room) c.in_err-item.ensures.asked
+    c.look.ensures.count c.look.ensures.ahead c.look.ensures.room) c.in_err-item.ensures.asked)
 
 pub returns-in-Some-clause-needed : goal.returns-in-Some-clause-needed
 returns-in-Some-clause-needed g c =
