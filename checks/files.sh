@@ -8,7 +8,16 @@ cd "$work"
 echo 'a: CREATE TABLE T (N BIGINT);' >commit
 
 # of NAME: the entries of this name and what they hold, the errors of the last run left out.
-of() { for file in "$1".*; do echo "$file $(readlink "$file" || md5sum <"$file")"; done; }
+of() {
+    local file
+    for file in "$1".*; do
+        if [ -L "$file" ]; then
+            echo "$file -> $(readlink "$file")"
+        elif [ -e "$file" ]; then
+            echo "$file $(md5sum <"$file")"
+        fi
+    done
+}
 
 # untouched NAME STATUS MESSAGE: a run on this name ends so, writes nothing, and leaves all entries of the name as they were.
 untouched() {

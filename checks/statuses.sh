@@ -102,7 +102,7 @@ cp "$program" hsql
 mkdir shut
 cp kept.* shut
 ls shut >before
-chmod 755 .
+chmod 755 . hsql
 chmod a-w shut shut/*
 other_user=()
 if [ "$(id -u)" = 0 ]; then
