@@ -3,8 +3,9 @@
 ghost use Rattle.std.specs.Prelude.{◌≡◌};
 ghost use Rattle.hs_host.specs.Files.{IsOpen};
 
-use crate::FileHost;
+use crate::{FileHost, Reason};
 use hs_host::{FileKind, Host, HostFault, MountFault, Source};
+use std::alloc::{AllocError, Global};
 use std::io::{Read, Write};
 use std::os::unix::fs::symlink;
 use std::test::Fail;
@@ -243,6 +244,13 @@ impl Write for OneByte {
     }
 }
 
+fn words_of(alloc: Global, reason: Option<Reason<'_>>) -> Result<String, AllocError> {
+    match reason {
+        Some(reason) => format!(in alloc; "{reason}"),
+        None => Ok(String::new(alloc)),
+    }
+}
+
 #[test]
 fn a_failing_call_has_its_reason(rt: HostRuntime) -> Result<(), Fail> {
     let alloc = rt.alloc();
@@ -254,14 +262,9 @@ fn a_failing_call_has_its_reason(rt: HostRuntime) -> Result<(), Fail> {
     assert!(rt; host.mount(name.as_str()).is_ok());
     assert!(rt; host.disk_reason().is_none());
     assert_eq!(rt; host.sync(FileKind::Data), Err(HostFault::Fault));
-    let Some(reason) = host.disk_reason() else {
-        panic!(rt; "no reason");
-    };
-    let said = format!(in alloc; "{reason}")?;
-    assert_eq!(rt;
-        said,
-        format!(in alloc; "{name}.data: Invalid argument (os error 22)")?
-    );
+    let said = words_of(alloc, host.disk_reason())?;
+    let wanted = format!(in alloc; "{name}.data: Invalid argument (os error 22)")?;
+    assert_eq!(rt; said.as_str(), wanted.as_str());
     assert!(rt; host.input_reason().is_none() && host.output_reason().is_none());
     fs::remove_dir_all(&rt, folder.as_str())?;
     Ok(())
