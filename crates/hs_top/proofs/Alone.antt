@@ -3,7 +3,11 @@ use Rattle.std.proofs.Common.{◌≡◌, ℕ, List, inl, inr, refl, sym, ap, sub
 use Rattle.hs_host.specs.declared.file_kind.FileKind.{FileKind}
 use Rattle.hs_host.specs.declared.file_kind.FileKind.TheVariants.{Log}
 use Rattle.hs_host.specs.Disk.{Pending}
-use Rattle.hs_host.specs.Files.{Five, of, with_}
+use Rattle.hs_host.specs.declared.source.Source as source
+use Rattle.hs_host.specs.declared.host.Host as host
+use Rattle.hs_host.specs.Files.{Five, IsOnly, of, with_}
+use Rattle.hs_host.specs.Used.{Told, ReadsFiles, Moves, ChangesFile}
+use Rattle.hs_host.proofs.Used.{uses_on, told_on, only_on, still_only}
 use Rattle.hs_host.specs.Moments.{Moment, History, Since, OneFile, IsStill, IsReading, disk_of}
 use Rattle.hs_host.proofs.Passing.{since_weaker, since_join, since_now}
 use Rattle.hs_top.specs.Crash.{IsLogAlone}
@@ -52,3 +56,25 @@ alone_stepping {a} {b} {gathered} {logged} {texts} ab = since_weaker ab (λ m. a
 pub alone_on : {a b c : History} → Since (IsLogAlone a.now) a b → Since (IsLogAlone b.now) b c → Since (IsLogAlone a.now) a c
 alone_on {a} {b} {c} ab bc =
     since_join ab (since_weaker bc (λ m alone. alone ∙ ap (λ (d : Five Pending). with_ d Log (disk_of m Log)) (alone_now ab)))
+
+-- what only reads files, and what changes the log
+pub alone_reads : {H : Type 0} {s : source.Ghosts H} {g : host.Ghosts H} {a b : H} → ReadsFiles s g a b → Moves s g Log (IsLogAlone (g.history a).now) a b
+alone_reads {H} {s} {g} {a} {b} ab = record {
+  uses = ab.uses;
+  others = λ told. still_only (g.files a) (g.files b) Log (ab.files told);
+  moments = λ told. alone_reading (ab.moments told);
+}
+
+pub alone_moves : {H : Type 0} {s : source.Ghosts H} {g : host.Ghosts H} {Q : List ℕ → Type 0} {a b : H} (file : FileKind) → file ≡ Log → ChangesFile s g file Q a b → Moves s g Log (IsLogAlone (g.history a).now) a b
+alone_moves {H} {s} {g} {Q} {a} {b} file is ab = record {
+  uses = ab.uses;
+  others = λ told. subst (λ (k : FileKind). IsOnly (g.files a) k (g.files b)) is (ab.others told);
+  moments = λ told. alone_writing file is (ab.moments told);
+}
+
+pub moves_alone_on : {H : Type 0} {s : source.Ghosts H} {g : host.Ghosts H} {a b c : H} → Moves s g Log (IsLogAlone (g.history a).now) a b → Moves s g Log (IsLogAlone (g.history b).now) b c → Moves s g Log (IsLogAlone (g.history a).now) a c
+moves_alone_on {H} {s} {g} {a} {b} {c} ab bc = record {
+  uses = uses_on ab.uses bc.uses;
+  others = λ told. only_on (g.files a) (g.files b) (g.files c) Log (ab.others told) (bc.others (told_on ab.uses told));
+  moments = λ told. alone_on (ab.moments told) (bc.moments (told_on ab.uses told));
+}

@@ -8,19 +8,20 @@ use Rattle.hs_host.specs.Disk.{Pending, Leaves}
 use Rattle.hs_host.specs.Files.{Five, of, IsOpen, IsHonest}
 use Rattle.hs_host.specs.Prefixes.{KeepsPrefix}
 use Rattle.hs_host.specs.Moments.{Moment, History, Since, IsPrinted, IsReading, disk_of}
-use Rattle.hs_host.specs.Used.{Told, UsesOutput}
+use Rattle.hs_host.specs.Used.{Told, UsesDisk, UsesOutput}
 use Rattle.hs_host.proofs.Passing.{since_weaker, since_join, since_now}
 use Rattle.hs_host.proofs.Torn.{front_stays}
 use Rattle.hs_gate.specs.declared.gated.Gated.{Gated}
 use Rattle.hs_gate.specs.Crash.{IsAsBefore}
-use Rattle.hs_gate.specs.Gated.{IsAtRest}
+use Rattle.hs_gate.specs.Gated.{IsAtRest, grown}
+use Rattle.hs_gate.proofs.Numbers.{length-spelled}
 use Rattle.hs_gate.specs.Groups.{Groups, groups_of, is_born, is_open, epoch_of}
 use Rattle.hs_gate.proofs.Torn.{as_before}
 use Rattle.hs_log.specs.Log.{IsLog, IsLogOf}
 use Rattle.hs_top.specs.declared.statement_log.StatementLog.{StatementLog}
 use Rattle.hs_top.specs.Crash.{AcknowledgesBehind}
 use Rattle.hs_top.specs.Holding.{Holds, IsHeld, IsGathered, IsAcknowledging, IsLogging, IsStep, IsHandedOver}
-use Rattle.hs_top.specs.Running.{Stands, texts_in}
+use Rattle.hs_top.specs.Running.{Stands, UsesWork, OnlyLog, texts_in}
 use Rattle.hs_entries.specs.declared.item.Item.{Item}
 use Rattle.hs_machine.specs.Lines.{OpenedAt, ClosedAt, printed_line, printed}
 use Rattle.hs_top.specs.Machine.{State, step_of}
@@ -145,13 +146,13 @@ log_handed {a} {b} {bytes} old new gated s same is = record {
 }
 
 -- and so the host stands for it
-pub stands_handed : {H : Type 0} {s : source.Ghosts H} {g : host.Ghosts H} {bytes : List ℕ} (log : StatementLog) (commits : ℕ) (a b : H) → UsesOutput s g a b → (s.tells → Since (IsHandedOver (g.history a).now bytes) (g.history a) (g.history b))
+pub stands_handed : {H : Type 0} {s : source.Ghosts H} {g : host.Ghosts H} {bytes : List ℕ} (log : StatementLog) (commits : ℕ) (a b : H) → g.standing b ≡ g.standing a → g.files b ≡ g.files a → (s.tells → Since (IsHandedOver (g.history a).now bytes) (g.history a) (g.history b))
     → Stands s g log commits a → Stands s g log commits b
-stands_handed {H} {s} {g} {bytes} log commits a b uses moments stands = record {
-  opened = subst IsOpen (sym uses.standing) stands.opened;
+stands_handed {H} {s} {g} {bytes} log commits a b standing files moments stands = record {
+  opened = subst IsOpen (sym standing) stands.opened;
   epoch = stands.epoch;
   room = stands.room;
-  log = λ t. log_handed (g.files a) (g.files b) log.gated (moments t.tells) uses.files (stands.log (record { tells = t.tells; honest = subst IsHonest uses.standing t.honest }));
+  log = λ t. log_handed (g.files a) (g.files b) log.gated (moments t.tells) files (stands.log (record { tells = t.tells; honest = subst IsHonest standing t.honest }));
 }
 
 -- the log as it is kept
@@ -242,3 +243,46 @@ held_opened files h gated is first before rest out =
     held_telling files h gated is first (length (texts_in files)) before (length (texts_in files)) (omega arith) refl [] rest h.now
     (record { written = []; is = out ∙ sym (append-nil before); lines = record { told = tells_nothing _; ends = inl refl } })
     (handed_nothing h.now [])
+
+-- files and output, and output behind that
+pub work_output : {H : Type 0} {s : source.Ghosts H} {g : host.Ghosts H} {a b c : H} → UsesWork s g a b → UsesOutput s g b c → UsesWork s g a c
+work_output {H} {s} {g} {a} {b} {c} ab bc = record {
+  standing = bc.standing ∙ ab.standing;
+  unread = bc.unread ∙ ab.unread;
+  input_faults = bc.input_faults ∙ ab.input_faults;
+  output_later = omega (arith, ab.output_later, bc.output_later);
+  disk_later = omega (arith, ab.disk_later, ap (λ (n : ℕ). n) bc.disk_faults);
+  others = λ told. subst (λ (f : Five (List ℕ)). OnlyLog (g.files a) f) (sym bc.files) (ab.others told);
+}
+
+-- output alone
+pub output_alone : {H : Type 0} {s : source.Ghosts H} {g : host.Ghosts H} {a b : H} → UsesOutput s g a b → UsesWork s g a b
+output_alone {H} {s} {g} {a} {b} ab = record {
+  standing = ab.standing;
+  unread = ab.unread;
+  input_faults = ab.input_faults;
+  output_later = ab.output_later;
+  disk_later = omega (arith, ap (λ (n : ℕ). n) ab.disk_faults);
+  others = λ told. subst (λ (f : Five (List ℕ)). OnlyLog (g.files a) f) (sym ab.files) refl;
+}
+
+-- the log alone
+pub disk_alone : {H : Type 0} {s : source.Ghosts H} {g : host.Ghosts H} {a b : H} → UsesDisk s g a b → (Told s g a → OnlyLog (g.files a) (g.files b)) → UsesWork s g a b
+disk_alone {H} {s} {g} {a} {b} ab others = record {
+  standing = ab.standing;
+  unread = ab.unread;
+  input_faults = ab.input_faults;
+  output_later = omega (arith, ap (λ (n : ℕ). n) ab.output_faults);
+  disk_later = ab.disk_later;
+  others = others;
+}
+
+-- one commit more is logged
+pub stands_more : {H : Type 0} {s : source.Ghosts H} {g : host.Ghosts H} (old new : StatementLog) (text : List ℕ) (n : ℕ) (a b : H) → new.gated ≡ grown old.gated (text ∷ []) → UsesDisk s g a b
+    → (Told s g a → IsLog (g.history b) (g.files b) new.gated) → Stands s g old n a → Stands s g new (n + 1) b
+stands_more {H} {s} {g} old new text n a b is uses log stands = record {
+  opened = subst IsOpen (sym uses.standing) stands.opened;
+  epoch = ap (λ (x : Gated). x.epoch) is ∙ stands.epoch;
+  room = omega (arith, stands.room, ap (λ (x : Gated). x.end) is, length-spelled text []);
+  log = λ t. log (record { tells = t.tells; honest = subst IsHonest uses.standing t.honest });
+}

@@ -1,5 +1,6 @@
 -- What stops a part stops the whole.
-use Rattle.std.proofs.Common.{◌≤◌, ℕ, arith}
+use Rattle.std.proofs.Common.{◌≤◌, ℕ, Result, Ok, Err, arith}
+use Rattle.std.specs.Prelude.{IfErr, OnOk}
 use Rattle.hs_host.specs.declared.source.Source as source
 use Rattle.hs_host.specs.declared.host.Host as host
 use Rattle.hs_host.specs.Host.{Rose}
@@ -7,10 +8,22 @@ use Rattle.hs_top.specs.declared.stop.Stop.{Stop}
 use Rattle.hs_top.specs.declared.stop.Stop.TheVariants.{Input, Output, Disk, NoMemory, Damaged, TooLong}
 use Rattle.hs_top.specs.Stop.{OutputStops, DiskStops, WorkStops, ReadStops, RunStops}
 
+pub stops_for : {T : Type 0} (P Q : Stop → Type 0) (r : Result T Stop) → ((stop : Stop) → P stop → Q stop) → IfErr r P → IfErr r Q
+stops_for P Q (Ok x) f e = tt
+stops_for P Q (Err stop) f e = f stop e
+
+pub any_ok : {T E P : Type 0} (r : Result T E) → P → OnOk r P
+any_ok (Ok x) p = p
+any_ok (Err e) p = tt
+
+pub ok_weaker : {T E P Q : Type 0} (r : Result T E) → (P → Q) → OnOk r P → OnOk r Q
+ok_weaker (Ok x) f p = f p
+ok_weaker (Err e) f p = tt
+
 rose_between : (a b c d : ℕ) → a ≤ b → c ≤ d → Rose b c → Rose a d
 rose_between a b c d first last rose = omega (arith, first, last, rose)
 
-module _ {H : Type 0} {s : source.Ghosts H} {g : host.Ghosts H} where
+module _ {H : Type 0} (s : source.Ghosts H) (g : host.Ghosts H) where
   pub output_work : (stop : Stop) (a b c d : H) → g.output_faults a ≤ g.output_faults b → g.output_faults c ≤ g.output_faults d → OutputStops s g b c stop → WorkStops s g a d stop
   output_work Output a b c d first last rose = rose_between _ _ _ _ first last rose
   output_work NoMemory a b c d first last rose = tt

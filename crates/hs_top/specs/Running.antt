@@ -8,7 +8,7 @@ use Rattle.hs_host.specs.declared.file_kind.FileKind.TheVariants.{Log}
 use Rattle.hs_entries.specs.declared.item.Item.{Item}
 use Rattle.hs_entries.specs.declared.item.Item.TheVariants as item
 use Rattle.hs_entries.specs.Left.{RunsOut, KeepsRoom}
-use Rattle.hs_entries.specs.Reader.{left, left_items, left_whole, kept, room, ahead}
+use Rattle.hs_entries.specs.Reader.{AgreesWith, ahead, has_ended, kept as fault_kept, left, left_items, left_whole, room}
 use Rattle.hs_gate.specs.Groups.{groups_of}
 use Rattle.hs_log.specs.Log.{IsLog, HasRoom}
 use Rattle.hs_top.specs.declared.running.Running.{Running}
@@ -28,11 +28,11 @@ OnlyLog old new = new ≡ with_ old Log new.log
 
 -- A host and a log of so many commits, which the program writes on: the host's files are open, the log has the first
 -- epoch, each commit has a group in it, and the host has it as it is kept here, on the disk too.
-pub record Stands {H : Type 0} (s : source.Ghosts H) (g : host.Ghosts H) (log : StatementLog) (commits : ℕ) (h : H) : Type 0 where
+pub record Stands {H : Type 0} (s : source.Ghosts H) (g : host.Ghosts H) (kept : StatementLog) (commits : ℕ) (h : H) : Type 0 where
   pub opened : IsOpen (g.standing h)
-  pub epoch : log.gated.epoch ≡ 1
-  pub room : HasRoom commits log.gated
-  pub log : Told s g h → IsLog (g.history h) (g.files h) log.gated
+  pub epoch : kept.gated.epoch ≡ 1
+  pub room : HasRoom commits kept.gated
+  pub log : Told s g h → IsLog (g.history h) (g.files h) kept.gated
 
 -- Output and files were used: the input is as before, no count of faults fell, and of the files only the log was changed.
 pub record UsesWork {H : Type 0} (s : source.Ghosts H) (g : host.Ghosts H) (old new : H) : Type 0 where
@@ -68,7 +68,8 @@ IsTooLong r unread = RunsOut (left r.reader unread)
 
 -- the run may take its next turn
 pub record IsSane {H : Type 0} (s : source.Ghosts H) (g : host.Ghosts H) (r : Running) (h : H) : Type 0 where
-  pub reader : kept r.reader ≡ None
+  pub reader : fault_kept r.reader ≡ None
+  pub agrees : s.tells → AgreesWith r.reader (s.unread h)
   pub stands : Stands s g r.work.log r.work.database.commits h
 
 -- What is left to be written and logged is what was left before, with what is gathered; and the reader counts what it takes.
@@ -79,9 +80,9 @@ pub record GoesOn {H : Type 0} (s : source.Ghosts H) (g : host.Ghosts H) (old_ru
   pub count : s.tells → KeepsRoom (left old_run.reader (s.unread old)) (left new_run.reader (s.unread new))
 
 -- There was an item, which was read, or the input is at its end.
-pub record HasTurned {H : Type 0} (s : source.Ghosts H) (old_run new_run : Running) (new : H) (more : Bool) : Type 0 where
-  pub used : more ≡ true → room new_run.reader < room old_run.reader
-  pub end : s.tells → more ≡ false → ahead new_run.reader ++ s.unread new ≡ []
+pub record HasTurned (old new : Running) (more : Bool) : Type 0 where
+  pub used : more ≡ true → room new.reader < room old.reader
+  pub end : more ≡ false → (has_ended new.reader ≡ true) × (ahead new.reader ≡ [])
 
 abbrev pub is_end : Item → Bool
 is_end item.End = true

@@ -52,10 +52,7 @@ pub fn answer<H: Host>(
     ensures stops { IfErr result (WorkStops H.Source H.Host.own host.old host.new) }
 {
     match perform(alloc, item, work, output, host) {
-        Ok(()) => {
-            flush_when_large(output, host)?;
-            Ok(())
-        }
+        Ok(()) => flush_when_large(output, host),
         Err(Stop::Disk) => {
             hand_over(output, host);
             Err(Stop::Disk)
@@ -182,8 +179,7 @@ fn execute<H: Host>(
 {
     match statement {
         Some(Statement::Select { table }) => {
-            select(alloc, number, name, table, database, output, host)?;
-            Ok(())
+            select(alloc, number, name, table, database, output, host)
         }
         Some(Statement::Create { table, columns }) => {
             let statement = Statement::Create { table, columns };

@@ -4,7 +4,7 @@ ghost use Rattle.hs_host.specs.Host.{Rose};
 ghost use Rattle.hs_host.specs.Moments.{Since, IsReading};
 ghost use Rattle.hs_host.specs.Used.{Told, UsesInput, UsesOutput, UsesAll};
 ghost use Rattle.hs_entries.specs.Left.{TakesFirst, TakesWhole, RunsOut, IsBeyond, KeepsRoom};
-ghost use Rattle.hs_entries.specs.Reader.{ahead, kept, left, left_items, left_whole, room};
+ghost use Rattle.hs_entries.specs.Reader.{AgreesWith, ahead, has_ended, kept, left, left_items, left_whole, room};
 ghost use Rattle.hs_top.specs.Crash.{IsLogAlone};
 ghost use Rattle.hs_top.specs.Holding.{IsHandedOver, IsHeld, IsAcknowledging};
 ghost use Rattle.hs_top.specs.Machine.{WritesPrefix, rest_of, lines_of, texts_of};
@@ -38,7 +38,7 @@ impl Running {
         requires sane { IsSane H.Source H.Host.own self.old host.old }
         ensures sane { OnOk result (IsSane H.Source H.Host.own self.new host.new) }
         ensures goes_on { OnOk result (GoesOn H.Source H.Host.own self.old host.old self.new host.new) }
-        ensures more { IfOk result (HasTurned H.Source self.old self.new host.new) }
+        ensures more { IfOk result (HasTurned self.old self.new) }
         ensures too_long { H.tells → IsErrOf result Stop.TooLong → IsTooLong self.old (H.unread host.old) × (H.written host.new ≡ H.written host.old ++ (self.old.output ++ lines_of (machine_within self.old (H.unread host.old)))) }
         ensures front { H.tells → WritesPrefix (H.written host.old) (H.written host.new) (self.old.output ++ rest_of (machine_of self.old (H.unread host.old))) }
         ensures moments { Told H.Source H.Host.own host.old → (least : ℕ) (before : List ℕ) → IsAcknowledging least before (H.files host.old) (H.written host.old) self.old.output self.old.work.database.commits → Since (IsHeld least (texts_in (H.files host.old) ++ texts_of (machine_of self.old (H.unread host.old))) before) (H.history host.old) (H.history host.new) }
@@ -82,7 +82,8 @@ fn next_item<H: Host>(
     ensures item { H.tells → IfOk result (λ item. TakesFirst (left_items reader.old (H.unread host.old)) item (left_items reader.new (H.unread host.new))) }
     ensures whole_item { H.tells → IfOk result (λ item. RunsOut (left reader.old (H.unread host.old)) → TakesWhole (left_whole reader.old (H.unread host.old)) item (left_whole reader.new (H.unread host.new))) }
     ensures count { H.tells → OnOk result (KeepsRoom (left reader.old (H.unread host.old)) (left reader.new (H.unread host.new))) }
-    ensures end { H.tells → IfOk result (λ item. item ≡ Item.End → ahead reader.new ++ H.unread host.new ≡ []) }
+    ensures end { IfOk result (λ item. item ≡ Item.End → (has_ended reader.new ≡ true) × (ahead reader.new ≡ [])) }
+    ensures agrees { H.tells → AgreesWith reader.old (H.unread host.old) → AgreesWith reader.new (H.unread host.new) }
     ensures used { IfOk result (λ item. is_end item ≡ false → room reader.new < room reader.old) }
     ensures too_long { H.tells → IsErrOf result Stop.TooLong → IsBeyond (left reader.old (H.unread host.old)) × (H.written host.new ≡ H.written host.old ++ output.old) }
     ensures done { H.tells → OnOk result (H.written host.new ++ output.new ≡ H.written host.old ++ output.old) }
@@ -113,6 +114,7 @@ fn flush_unless_ready<H: Host>(
     ensures left { (rest : List ℕ) → left reader.new rest ≡ left reader.old rest }
     ensures ahead { ahead reader.new ≡ ahead reader.old }
     ensures kept { kept reader.new ≡ kept reader.old }
+    ensures ended { has_ended reader.new ≡ has_ended reader.old }
     ensures done { H.tells → OnOk result (H.written host.new ++ output.new ≡ H.written host.old ++ output.old) }
     ensures front { H.tells → WritesPrefix (H.written host.old) (H.written host.new) output.old }
     ensures moments { H.tells → Since (IsHandedOver (H.history host.old).now output.old) (H.history host.old) (H.history host.new) }
@@ -132,7 +134,8 @@ fn read_next<H: Host>(reader: &mut EntryReader, host: &mut H) -> Result<Item, In
     ensures item { H.tells → IfOk result (λ item. TakesFirst (left_items reader.old (H.unread host.old)) item (left_items reader.new (H.unread host.new))) }
     ensures whole_item { H.tells → IfOk result (λ item. RunsOut (left reader.old (H.unread host.old)) → TakesWhole (left_whole reader.old (H.unread host.old)) item (left_whole reader.new (H.unread host.new))) }
     ensures count { H.tells → OnOk result (KeepsRoom (left reader.old (H.unread host.old)) (left reader.new (H.unread host.new))) }
-    ensures end { H.tells → IfOk result (λ item. item ≡ Item.End → ahead reader.new ++ H.unread host.new ≡ []) }
+    ensures end { IfOk result (λ item. item ≡ Item.End → (has_ended reader.new ≡ true) × (ahead reader.new ≡ [])) }
+    ensures agrees { H.tells → AgreesWith reader.old (H.unread host.old) → AgreesWith reader.new (H.unread host.new) }
     ensures used { IfOk result (λ item. is_end item ≡ false → room reader.new < room reader.old) }
     ensures too_long { H.tells → IsErrOf result InputFault.TooLong → IsBeyond (left reader.old (H.unread host.old)) }
     ensures uses { UsesInput H.Source H.Host.own host.old host.new }

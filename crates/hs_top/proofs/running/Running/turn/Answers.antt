@@ -7,7 +7,6 @@ use Rattle.hs_host.proofs.Passing.{since_weaker, since_join}
 use Rattle.hs_entries.specs.declared.item.Item.{Item}
 use Rattle.hs_entries.specs.Left.{KeepsRoom}
 use Rattle.hs_entries.specs.Reader.{ahead, left, left_items, left_whole, next_number}
-use Rattle.hs_log.specs.Log.{IsLog}
 use Rattle.hs_machine.specs.Lines.{printed}
 use Rattle.hs_top.specs.Acknowledged.{IsNamed, are_named}
 use Rattle.hs_top.specs.Crash.{IsLogAlone}
@@ -17,7 +16,7 @@ use Rattle.hs_top.specs.Running.{Stands, machine_of, state_of, texts_in}
 use Rattle.hs_top.specs.declared.stop.Stop.TheVariants.{TooLong}
 use Rattle.hs_top.proofs.Acknowledged.{items_named}
 use Rattle.hs_top.proofs.Alone.{alone_printing, alone_on}
-use Rattle.hs_top.proofs.Holding.{log_handed, held_telling, telling_handed}
+use Rattle.hs_top.proofs.Holding.{held_telling, stands_handed, telling_handed}
 use Rattle.hs_top.proofs.Runs.{rest_of-turn, lines_of-turn, texts_of-turn, lines_of-over}
 use Rattle.hs_top.proofs.Stops.{read_run, work_run}
 use Rattle.hs_top.proofs.Taken.{taken, taken_whole, taken_none, none_before, ended, none_left}
@@ -75,7 +74,7 @@ returns-clause-goes_on g c =
       texts = λ t.
           logged_on (texts_in (g.H.Host.files c.args.host.now)) (texts_in (g.H.Host.files c.next_item.new.host)) (texts_in (g.H.Host.files c.answer.new.host)) _ _ _
           (ap texts_in c.next_item.ensures.uses.files)
-          (c.in_ok-answer.ensures.texts (still g at.In-Ok t))
+          (c.in_ok-answer.ensures.texts (still g (goal.at.returns-clause-goes_on g c).In-Ok t))
           (texts_of-turn _ _ c.in-Ok.item (state_of c.args.self.now.work) (state_of c.answer.new.work) (next g at t.tells) c.in_ok-answer.ensures.state);
       count = λ told. subst (λ (u : List ℕ). KeepsRoom (left c.args.self.now.reader (g.H.Source.unread c.args.host.now)) (left c.next_item.new.reader u)) (sym c.answer.ensures.uses.unread) (c.in-Ok.ensures.count told);
     }
@@ -84,7 +83,8 @@ returns-clause-goes_on g c =
 none_more : (g : _) (c : Then-is_end g) → g.H.Source.tells → left_items c.next_item.new.reader (g.H.Source.unread c.next_item.new.host) ≡ left_items c.args.self.now.reader (g.H.Source.unread c.args.host.now)
 none_more g c told =
     let end = sym c.is_end.ensures ∙ c.if-is_end.true in
-    none_left c.next_item.new.reader (g.H.Source.unread c.next_item.new.host) (c.in-Ok.ensures.end told (ended c.in-Ok.item end)) ∙ sym (none_before c.in-Ok.item _ _ end (c.in-Ok.ensures.item told))
+    let over = c.in-Ok.ensures.end (ended c.in-Ok.item end) in
+    none_left c.next_item.new.reader (g.H.Source.unread c.next_item.new.host) over.0 over.1 ∙ sym (none_before c.in-Ok.item _ _ end (c.in-Ok.ensures.item told))
 
 pub returns-then-is_end-clause-goes_on : goal.returns-then-is_end-clause-goes_on
 returns-then-is_end-clause-goes_on g c =
@@ -117,7 +117,7 @@ reading : (g : _) (c : After-next_item g) → Told g.H.Source g.H.Host c.args.ho
     → Since (IsHeld least (texts_in (g.H.Host.files c.args.host.now) ++ texts_of (machine_of c.args.self.now (g.H.Source.unread c.args.host.now))) before) (g.H.Host.history c.args.host.now) (g.H.Host.history c.next_item.new.host)
 reading g c told least before t =
     let work = c.args.self.now.work in
-    let stands = c.requires.stands in
+    let stands = c.requires.sane.stands in
     let out = sym (g.met.H.Host.output_now c.args.host.now told.tells) in
     since_weaker (c.next_item.ensures.moments told.tells)
     (λ m. held_telling (g.H.Host.files c.args.host.now) (g.H.Host.history c.args.host.now) work.log.gated (stands.log told) stands.epoch least before work.database.commits t.enough t.counted
@@ -130,7 +130,7 @@ telling_read g c told least before =
     c.next_item.ensures.uses.files (c.in-Ok.ensures.done told) (c.next_item.ensures.front told).grown
 
 named : (g : _) (c : After-answer g) → g.H.Source.tells → IsNamed c.in-Ok.item
-named g c told = (and_parts _ _ (subst (λ (is : List Item). are_named is ≡ true) (next g c told) (items_named (next_number c.args.self.now.reader) (ahead c.args.self.now.reader ++ g.H.Source.unread c.args.host.now)))).0
+named g c told = (and_parts _ _ (subst (λ (is : List Item). are_named is ≡ true) (next g c told) (items_named (next_number c.args.self.now.reader) (left c.args.self.now.reader (g.H.Source.unread c.args.host.now)).input))).0
 
 -- the moments of the turn
 turning_moments : (g : _) (c : After-answer g) → Told g.H.Source g.H.Host c.args.host.now
@@ -185,3 +185,18 @@ returns-in_err-answer-clause-alone g c = turning_alone g (goal.at.returns-in_err
 
 pub returns-clause-alone : goal.returns-clause-alone
 returns-clause-alone g c = turning_alone g (goal.at.returns-clause-alone g c).After-answer
+
+-- what was read and handed over leaves the log as it stands
+stands_read : (g : _) (c : After-next_item g) → Stands g.H.Source g.H.Host c.args.self.now.work.log c.args.self.now.work.database.commits c.next_item.new.host
+stands_read g c =
+    stands_handed c.args.self.now.work.log c.args.self.now.work.database.commits c.args.host.now c.next_item.new.host c.next_item.ensures.uses.standing c.next_item.ensures.uses.files c.next_item.ensures.moments c.requires.sane.stands
+
+pub returns-then-is_end-clause-sane : goal.returns-then-is_end-clause-sane
+returns-then-is_end-clause-sane g c = record {
+  reader = c.in-Ok.ensures.sound;
+  agrees = λ told. c.next_item.ensures.agrees told (c.requires.sane.agrees told);
+  stands = stands_read g (goal.at.returns-then-is_end-clause-sane g c).After-next_item;
+}
+
+pub answer-requires : goal.answer-requires
+answer-requires g c = record { stands = stands_read g (goal.at.answer-requires g c).After-next_item }
