@@ -1,5 +1,5 @@
 -- That no line tells of a commit that isn't made.
-use Rattle.std.proofs.Common.{◌≡◌, ℕ, ◌+◌, ◌≤◌, max, Bool, true, false, List, [], ◌∷◌, ◌++◌, length, Option, None, Some, codes, refl, sym, ap, subst, ◌∙◌, arith, append-nil}
+use Rattle.std.proofs.Common.{◌≡◌, ℕ, ◌+◌, ◌≤◌, true, false, List, [], ◌∷◌, ◌++◌, length, Option, None, Some, refl, ap, ◌∙◌, arith}
 use Rattle.std.specs.Prelude.{IfSome, ◌==◌, ◌&&◌, nat_le, nat_lt, if◌then◌else◌}
 use Rattle.std.specs.List.{All, list_all, list_any}
 use Rattle.std.specs.Str.{is_utf8}
@@ -21,7 +21,7 @@ use Rattle.hs_machine.specs.declared.refusal.Refusal.TheVariants.{TooLong, Entry
 use Rattle.hs_machine.specs.declared.reply.Reply.{Reply}
 use Rattle.hs_machine.specs.declared.reply.Reply.TheVariants as reply
 use Rattle.hs_machine.specs.Acknowledged.{AcknowledgesLines, acknowledged, acks, IsPlainName, IsPlainRefusal, IsPlain, ArePlain}
-use Rattle.hs_machine.specs.Lines.{Line, OpenedAt, ClosedAt, no_session, printed_line, printed}
+use Rattle.hs_machine.specs.Lines.{OpenedAt, ClosedAt, printed_line, printed}
 use Rattle.hs_machine.specs.Replies.{rows_lines, rows_of, final_line, reply_lines}
 use Rattle.hs_machine.proofs.Acknowledged.{all_lack, passing, last_alone, lines_tell, line_tells_on}
 use Rattle.hs_machine.proofs.Lines.{acks_behind, plain_behind, rows_plain, rows_silent}

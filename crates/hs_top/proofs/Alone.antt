@@ -6,7 +6,7 @@ use Rattle.hs_host.specs.Disk.{Pending}
 use Rattle.hs_host.specs.declared.source.Source as source
 use Rattle.hs_host.specs.declared.host.Host as host
 use Rattle.hs_host.specs.Files.{Five, IsOnly, of, with_}
-use Rattle.hs_host.specs.Used.{Told, ReadsFiles, Moves, ChangesFile}
+use Rattle.hs_host.specs.Used.{ReadsFiles, Moves, ChangesFile}
 use Rattle.hs_host.proofs.Used.{uses_on, told_on, only_on, still_only}
 use Rattle.hs_host.specs.Moments.{Moment, History, Since, OneFile, IsStill, IsReading, disk_of}
 use Rattle.hs_host.proofs.Passing.{since_weaker, since_join, since_now}

@@ -8,7 +8,7 @@ use Rattle.hs_gate.specs.Gated.{IsAtRest, IsUnbornOrCreated, empty, created}
 use Rattle.hs_gate.specs.Groups.{groups_of, is_born, is_open, epoch_of}
 use Rattle.hs_gate.proofs.Fronts.{created_fresh}
 use Rattle.hs_top.specs.Crash.{GivesSame, IsUnbornOrSurvives}
-use Rattle.hs_top.specs.Opening.{Opened, nothing_logged, replayed, opened_of, texts_at}
+use Rattle.hs_top.specs.Opening.{nothing_logged, replayed, opened_of, texts_at}
 use Rattle.hs_top.proofs.Safe.{same_survives, born_texts}
 
 -- what an unborn log gives

@@ -15,12 +15,12 @@ use Rattle.hs_gate.specs.declared.gated.Gated.{Gated}
 use Rattle.hs_gate.specs.Crash.{IsAsBefore}
 use Rattle.hs_gate.specs.Gated.{IsAtRest, grown}
 use Rattle.hs_gate.proofs.Numbers.{length-spelled}
-use Rattle.hs_gate.specs.Groups.{Groups, groups_of, is_born, is_open, epoch_of}
+use Rattle.hs_gate.specs.Groups.{groups_of, is_born, is_open, epoch_of}
 use Rattle.hs_gate.proofs.Torn.{as_before}
 use Rattle.hs_log.specs.Log.{IsLog, IsLogOf}
 use Rattle.hs_top.specs.declared.statement_log.StatementLog.{StatementLog}
 use Rattle.hs_top.specs.Crash.{AcknowledgesBehind}
-use Rattle.hs_top.specs.Holding.{Holds, IsHeld, IsGathered, IsAcknowledging, IsLogging, IsStep, IsHandedOver}
+use Rattle.hs_top.specs.Holding.{IsHeld, IsGathered, IsAcknowledging, IsLogging, IsStep, IsHandedOver}
 use Rattle.hs_top.specs.Running.{Stands, UsesWork, OnlyLog, texts_in}
 use Rattle.hs_entries.specs.declared.item.Item.{Item}
 use Rattle.hs_machine.specs.Lines.{OpenedAt, ClosedAt, printed_line, printed}
@@ -212,13 +212,13 @@ module _ (files : Five (List ℕ)) (h : History) (gated : Gated) (is : IsLog h f
       elim (l.file.each left (subst (λ (p : Pending). Leaves p left) disk_is leaves)) [
         | inl same ↦ record { texts = texts_in files; is = same; enough = enough; rest = texts ++ rest; prefix = refl; told = told }
         | inr one ↦ record {
-            texts = texts_in files ++ l.text ∷ [];
-            is = one;
-            enough = omega (arith, enough, length-append (texts_in files) (l.text ∷ []));
-            rest = rest;
-            prefix = append_assoc (texts_in files) (l.text ∷ []) rest ∙ ap (λ (ts : List (List ℕ)). texts_in files ++ (ts ++ rest)) (sym l.one);
-            told = record { written = told.written; is = told.is; told = more told.written _ _ told.told (omega (arith, length-append (texts_in files) (l.text ∷ []))) };
-          }
+          texts = texts_in files ++ l.text ∷ [];
+          is = one;
+          enough = omega (arith, enough, length-append (texts_in files) (l.text ∷ []));
+          rest = rest;
+          prefix = append_assoc (texts_in files) (l.text ∷ []) rest ∙ ap (λ (ts : List (List ℕ)). texts_in files ++ (ts ++ rest)) (sym l.one);
+          told = record { written = told.written; is = told.is; told = more told.written _ _ told.told (omega (arith, length-append (texts_in files) (l.text ∷ []))) };
+        }
       ]
 
   -- in both, step after step

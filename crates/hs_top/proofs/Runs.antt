@@ -1,11 +1,11 @@
 -- That the program is a lawful machine, and how what is left to be written and logged goes on from item to item.
-use Rattle.std.proofs.Common.{◌≡◌, ◌+◌, ◌<◌, ◌≤◌, ℕ, true, List, [], ◌∷◌, ◌++◌, length, Option, None, Some, refl, sym, ap, subst, ◌∙◌, arith}
+use Rattle.std.proofs.Common.{◌≡◌, ◌+◌, ◌<◌, ◌≤◌, ℕ, true, List, [], ◌∷◌, ◌++◌, length, None, Some, refl, sym, ap, subst, ◌∙◌, arith}
 use Rattle.std.proofs.lemmas.Bool.{and_parts}
 use Rattle.std.proofs.lemmas.Option.{none-some, same_Some}
 use Rattle.hs_entries.specs.declared.item.Item.{Item}
 use Rattle.hs_machine.specs.Acknowledged.{acks, ArePlain}
-use Rattle.hs_machine.specs.Lines.{Line, ClosedAt, printed_line, printed}
-use Rattle.hs_machine.specs.Machine.{Turn, IsLawful, IsTelling, whole, still}
+use Rattle.hs_machine.specs.Lines.{ClosedAt, printed_line, printed}
+use Rattle.hs_machine.specs.Machine.{Turn, IsLawful, IsTelling}
 use Rattle.hs_machine.proofs.Lines.{printed-append, one_printed}
 use Rattle.hs_machine.proofs.Machine.{whole_some, whole_none, rest_some, rest_none}
 use Rattle.hs_top.specs.Acknowledged.{is_named, are_named, has_names}

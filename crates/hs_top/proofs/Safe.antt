@@ -18,7 +18,7 @@ use Rattle.hs_top.specs.Crash.{Survives, IsSafe, IsSafeFromOpening, HasLog, Give
 use Rattle.hs_top.specs.Database.{performed}
 use Rattle.hs_top.specs.Holding.{Holds, IsHeld}
 use Rattle.hs_top.specs.CommitText.{commit_text}
-use Rattle.hs_top.specs.Machine.{State, machine, step_of, entered, logged, turn, steps, texts, texts_of}
+use Rattle.hs_top.specs.Machine.{State, machine, step_of, entered, logged, turn, texts, texts_of}
 use Rattle.hs_top.specs.Opening.{Opened, nothing_logged, replayed, opened_of, texts_at, texts_from, begun_with}
 use Rattle.hs_top.specs.Running.{has_opened}
 use Rattle.hs_top.specs.Sessions.{Admitted, admitted}

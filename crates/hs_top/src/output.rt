@@ -98,7 +98,9 @@ impl Output {
     {
         match reply {
             Reply::Ok {
-                count, committed, ..
+                count,
+                committed,
+                ..
             } => self.push_done(number, session, *count, *committed),
             Reply::Refused(refusal) => self.push_refused(number, session, refusal),
         }

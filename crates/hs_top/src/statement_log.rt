@@ -28,7 +28,12 @@ impl StatementLog {
     }
 
     /// Adds the text of a commit of a session. After an `Ok` it stands on the disk.
-    pub fn commit<H: Host>(&mut self, host: &mut H, session: u32, text: &Bytes) -> Result<(), GateFault>
+    pub fn commit<H: Host>(
+        &mut self,
+        host: &mut H,
+        session: u32,
+        text: &Bytes,
+    ) -> Result<(), GateFault>
         requires opened { IsOpen (H.standing host.old) }
         requires log { Told H.Source H.Host.own host.old → IsLog (H.history host.old) (H.files host.old) self.old.gated }
         ensures last { OnOk result (self.new.last ≡ Some session) }

@@ -7,7 +7,7 @@ use Rattle.hs_machine.specs.Lines.{printed}
 use Rattle.hs_top.specs.Acknowledged.{IsNamed}
 use Rattle.hs_top.specs.Holding.{IsHeld, IsGathered, IsAcknowledging, IsHandedOver}
 use Rattle.hs_top.specs.Machine.{step_of}
-use Rattle.hs_top.specs.Running.{Stands, UsesWork, state_of, texts_in}
+use Rattle.hs_top.specs.Running.{state_of, texts_in}
 use Rattle.hs_top.proofs.Acknowledged.{one_text}
 use Rattle.hs_top.proofs.Alone.{alone_stepping, alone_printing, alone_on}
 use Rattle.hs_top.proofs.Holding.{gathered_step, held_failed, held_step, held_telling, stands_handed, telling_step, telling_handed, work_output}

@@ -1,4 +1,4 @@
-use Rattle.std.proofs.Common.{◌≡◌, ◌+◌, Bool, List, ℕ, [], ◌∷◌, cond, sym, ap, subst}
+use Rattle.std.proofs.Common.{◌+◌, Bool, ℕ, [], ◌∷◌, cond, sym, ap, subst}
 use Rattle.hs_host.specs.declared.file_kind.FileKind.TheVariants.{Log}
 use Rattle.hs_host.specs.Moments.{OneFile}
 use Rattle.hs_host.specs.Used.{Moves}

@@ -1,4 +1,4 @@
-use Rattle.std.proofs.Common.{◌≡◌, ℕ, true, false, List, inl, refl, sym, ap, subst, ◌∙◌}
+use Rattle.std.proofs.Common.{◌≡◌, ℕ, true, false, List, inl, refl, sym, ap, ◌∙◌}
 use Rattle.hs_host.specs.Files.{Five}
 use Rattle.hs_gate.specs.Groups.{is_born}
 use Rattle.hs_host.specs.declared.file_kind.FileKind.TheVariants.{Log}

@@ -1,6 +1,6 @@
 use Rattle.std.proofs.Common.{◌≡◌, List, ℕ, Ok, Err, sym, ap, subst, ◌∙◌}
 use Rattle.hs_host.specs.Files.{Five}
-use Rattle.hs_host.specs.Used.{Told, ReadsFiles}
+use Rattle.hs_host.specs.Used.{ReadsFiles}
 use Rattle.hs_host.proofs.Used.{told_on, reads_on}
 use Rattle.hs_top.specs.declared.stop.Stop.TheVariants.{Damaged}
 use Rattle.hs_top.specs.Opening.{replayed, nothing_logged, opened_by}

@@ -1,27 +1,24 @@
-use Rattle.std.proofs.Common.{◌≡◌, ◌++◌, ◌^◌, ◌<◌, ◌≤◌, List, [], ◌∷◌, ℕ, false, length, take, Err, refl, sym, ap, subst, ◌∙◌, arith, append-nil}
+use Rattle.std.proofs.Common.{◌≡◌, ◌++◌, ◌^◌, List, [], ℕ, length, take, refl, sym, ap, subst, ◌∙◌, arith, append-nil}
 use Rattle.hs_host.specs.Files.{Five, IsHonest, with_}
 use Rattle.hs_host.specs.declared.file_kind.FileKind.TheVariants.{Log}
 use Rattle.hs_host.specs.Moments.{Since}
-use Rattle.hs_host.specs.Used.{Told, UsesAll}
+use Rattle.hs_host.specs.Used.{Told}
 use Rattle.hs_host.proofs.Passing.{since_none, since_weaker, since_join}
 use Rattle.hs_host.proofs.Used.{all_on, output_all}
 use Rattle.hs_entries.specs.declared.item.Item.{Item}
 use Rattle.hs_entries.specs.Items.{items, whole_items}
-use Rattle.hs_entries.specs.Reader.{left, left_items, left_whole, room}
+use Rattle.hs_entries.specs.Reader.{left_items, left_whole}
 use Rattle.hs_machine.specs.Lines.{OpenedAt, printed_line}
-use Rattle.hs_top.specs.declared.stop.Stop.TheVariants.{TooLong}
 use Rattle.hs_top.specs.Crash.{IsLogAlone}
 use Rattle.hs_top.specs.Holding.{IsHeld, IsGathered}
-use Rattle.hs_top.specs.Machine.{State, WritesPrefix, machine, transcript, transcript_within, rest_of, lines_of, texts_of}
+use Rattle.hs_top.specs.Machine.{State, WritesPrefix, machine, transcript, rest_of, lines_of, texts_of}
 use Rattle.hs_top.specs.Opening.{opened_by, begun_with, texts_from, IsWholeLog}
 use Rattle.hs_top.specs.Running.{machine_of, state_of, texts_in, IsTooLong}
-use Rattle.hs_top.specs.Stop.{OutputStops, RunStops}
 use Rattle.hs_top.proofs.Alone.{alone_printing, alone_on}
 use Rattle.hs_top.proofs.Holding.{first_gathered, last_gathered, held_telling}
 use Rattle.hs_top.proofs.Logged.{whole_log}
 use Rattle.hs_top.proofs.Prefixes.{nothing_yet, front_after}
 use Rattle.hs_top.proofs.Runs.{rest_of-over, texts_of-over}
-use Rattle.hs_top.proofs.Stops.{stops_for, output_run, run_run}
 use Rattle.hs_top.proofs.Taken.{fresh_items, fresh_whole, fresh_input, over_input, begun_not_ended, none_left}
 use Rattle.hs_top.proofs.Turns.{ended}
 use Rattle.hs_top.proofs.run_over.answer_all.Goals as goal

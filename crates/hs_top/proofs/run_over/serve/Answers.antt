@@ -1,4 +1,4 @@
-use Rattle.std.proofs.Common.{◌≡◌, ℕ, List, [], ◌++◌, Ok, length, false, inl, inr, refl, sym, ap, subst, ◌∙◌}
+use Rattle.std.proofs.Common.{◌≡◌, ℕ, List, [], ◌++◌, Ok, length, false, inr, sym, ap, subst, ◌∙◌}
 use Rattle.hs_host.specs.Disk.{settled}
 use Rattle.hs_host.specs.Files.{IsHonest}
 use Rattle.hs_host.specs.declared.file_kind.FileKind.TheVariants.{Log}

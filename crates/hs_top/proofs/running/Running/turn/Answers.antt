@@ -1,4 +1,4 @@
-use Rattle.std.proofs.Common.{◌≡◌, ◌++◌, ◌∷◌, List, ℕ, true, Err, refl, sym, ap, subst, ◌∙◌, append-nil, arith}
+use Rattle.std.proofs.Common.{◌≡◌, ◌++◌, ◌∷◌, List, ℕ, true, Err, refl, sym, ap, subst, ◌∙◌, append-nil}
 use Rattle.std.proofs.lemmas.Bool.{and_parts}
 use Rattle.hs_host.specs.Files.{Five, IsHonest}
 use Rattle.hs_host.specs.Moments.{Since}
@@ -6,7 +6,7 @@ use Rattle.hs_host.specs.Used.{Told}
 use Rattle.hs_host.proofs.Passing.{since_weaker, since_join}
 use Rattle.hs_entries.specs.declared.item.Item.{Item}
 use Rattle.hs_entries.specs.Left.{KeepsRoom}
-use Rattle.hs_entries.specs.Reader.{ahead, left, left_items, left_whole, next_number}
+use Rattle.hs_entries.specs.Reader.{left, left_items, left_whole, next_number}
 use Rattle.hs_machine.specs.Lines.{printed}
 use Rattle.hs_top.specs.Acknowledged.{IsNamed, are_named}
 use Rattle.hs_top.specs.Crash.{IsLogAlone}
@@ -18,7 +18,6 @@ use Rattle.hs_top.proofs.Acknowledged.{items_named}
 use Rattle.hs_top.proofs.Alone.{alone_printing, alone_on}
 use Rattle.hs_top.proofs.Holding.{held_telling, stands_handed, telling_handed}
 use Rattle.hs_top.proofs.Runs.{rest_of-turn, lines_of-turn, texts_of-turn, lines_of-over}
-use Rattle.hs_top.proofs.Stops.{read_run, work_run}
 use Rattle.hs_top.proofs.Taken.{taken, taken_whole, taken_none, none_before, ended, none_left}
 use Rattle.hs_top.proofs.Turns.{turned, turning, front_behind, read_on, logged_on}
 use Rattle.hs_top.proofs.running.Running.turn.Goals as goal
