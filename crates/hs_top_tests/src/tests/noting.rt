@@ -11,7 +11,8 @@ use std::test::Fail;
 // This many bytes of output are gathered at most, and of input a read may bring at least.
 const FULL: usize = 65_536;
 
-// A host that notes its calls, how much was written before each read, and how much the read may bring.
+// A host that notes its calls, how much was written before each read, and how much the read may bring. It tells no
+// content.
 #[derive(Drop)]
 struct Noting {
     inner: MemHost,
@@ -46,11 +47,11 @@ impl Noting {
 }
 
 impl Source for Noting {
-    ghost use Rattle.std.specs.Prelude.{◌≡◌, ◌++◌, refl};
+    ghost use Rattle.std.specs.Prelude.{◌≡◌, refl};
     ghost use Rattle.std.proofs.Common.{◌∙◌};
     ghost use Rattle.hs_memhost.specs.Memory.{kept_of};
 
-    ghost tells = { ⟦<MemHost as Source>⟧.tells };
+    ghost tells = { ⊥ };
 
     ghost unread = { λ h. ⟦<MemHost as Source>⟧.unread h.inner };
 
@@ -58,11 +59,15 @@ impl Source for Noting {
 
     ghost only_input = { λ a b. kept_of b.inner ≡ kept_of a.inner };
 
-    ghost reads = { λ a b bytes. ⟦<MemHost as Source>⟧.unread a.inner ≡ bytes ++ ⟦<MemHost as Source>⟧.unread b.inner };
+    ghost reads = { λ a b bytes. Unit {0} };
+
+    ghost makes_moment = { λ a b. Unit {0} };
 
     ghost nothing_read = { λ h. refl };
 
     ghost read_on = { λ a b c ab bc. bc ∙ ab };
+
+    ghost reads_unread = { λ a b bytes told read. absurd told };
 
     fn read_input(&mut self, buf: &mut [u8]) -> Result<usize, HostFault> {
         self.note(b'i')?;
@@ -78,11 +83,7 @@ impl Source for Noting {
 }
 
 impl Host for Noting {
-    ghost use Rattle.std.specs.Prelude.{refl};
     ghost use Rattle.std.proofs.Common.{ap};
-    ghost use Rattle.hs_memhost.specs.Files.{contents_of};
-    ghost use Rattle.hs_memhost.specs.Left.{may_be_left};
-    ghost use Rattle.hs_memhost.specs.Replay.{still_since};
 
     ghost written = { λ h. ⟦<MemHost as Host>⟧.written h.inner };
 
@@ -96,11 +97,17 @@ impl Host for Noting {
 
     ghost disk_faults = { λ h. ⟦<MemHost as Host>⟧.disk_faults h.inner };
 
-    ghost output_now = { λ h told. refl };
+    ghost output_now = { λ h told. absurd told };
 
-    ghost read_may_be_left = { λ h told honest file. may_be_left (contents_of h.inner.devices.first) h.inner.devices.calls.items file };
+    ghost read_may_be_left = { λ h told honest file. absurd told };
 
-    ghost reading_passes = { λ a b read told. still_since (ap (λ k. k.history) read) };
+    ghost reading_passes = { λ a b read told. absurd told };
+
+    ghost reading_takes = { λ a b read told. absurd told };
+
+    ghost reads_moment = { λ a b bytes told read made. absurd told };
+
+    ghost reads_asked = { λ a b bytes told read. absurd told };
 
     ghost reading_keeps_output = { λ a b read. (ap (λ k. k.history.now.out) read, ap (λ k. k.output_faults) read) };
 
