@@ -16,8 +16,8 @@ use Rattle.hs_values.specs.declared.value.Value.{Value}
 use Rattle.hs_values.specs.declared.value.Value.TheVariants as v
 use Rattle.hs_values.specs.Key.{without_zeros, key_of}
 use Rattle.hs_values.specs.Order.{whole, number_cmp, order_of, row_order_of}
-use Rattle.hs_values.proofs.Lawful.{order_of_total}
-use Rattle.hs_values.proofs.Scales.{number_cmp_total, compared_times, times_times, times_swap, ten_positive}
+use Rattle.hs_values.specs.TotalOrder.{order_of_total}
+use Rattle.hs_values.specs.NumberOrder.{number_cmp_total, compared_times, times_times, times_swap, ten_positive}
 
 -- units ending in a zero, behind the point
 pub without_zeros_at_zero : (units : ℤ) (places : ℕ) → int_rem units (pos 10) ≡ pos 0 → without_zeros units (suc places) ≡ without_zeros (int_div units (pos 10)) places

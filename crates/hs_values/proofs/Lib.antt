@@ -1,6 +1,7 @@
 pub mod Assigned
 pub mod Bags
 pub mod DecimalWidths
+pub mod KeyedRows
 pub mod Keys
 pub mod Lawful
 pub mod Rows

@@ -1,5 +1,5 @@
 use Rattle.hs_values.specs.Order.{row_order_of}
-use Rattle.hs_values.proofs.Lawful.{row_order_of_total}
+use Rattle.hs_values.specs.TotalOrder.{row_order_of_total}
 use Rattle.hs_values.proofs.Bags.{sorted_by-permuted}
 use Rattle.hs_values.proofs.laws.a_bag_has_one_order.Goals as goal
 

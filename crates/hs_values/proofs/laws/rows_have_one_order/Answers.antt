@@ -1,5 +1,5 @@
 use Rattle.hs_values.specs.Order.{row_order_of}
-use Rattle.hs_values.proofs.Lawful.{row_order_of_total}
+use Rattle.hs_values.specs.TotalOrder.{row_order_of_total}
 use Rattle.hs_values.proofs.Stable.{sorted_by-IsPermutation, sorted_by-IsSorted, sorted_by-IsStable, sorted_by-only}
 use Rattle.hs_values.proofs.laws.rows_have_one_order.Goals as goal
 
