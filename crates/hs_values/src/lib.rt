@@ -13,6 +13,8 @@ pub mod laws;
 mod name;
 mod row;
 mod row_list;
+#[cfg(test)]
+mod row_tests;
 mod sql_type;
 #[cfg(test)]
 mod tests;
