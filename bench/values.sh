@@ -246,7 +246,7 @@ rank() {
         awk -v part="$2" '{ v[NR] = $1 } END { print v[1 + int((NR - 1) * part)] }'
 }
 
-for label in $(cut -d ' ' -f 1 "$work/rounds" | sort -u); do
+while read -r label; do
     median=$(rank "$label" 0.5) least=$(rank "$label" 0)
     case $label in
         like_*)
@@ -262,4 +262,4 @@ for label in $(cut -d ' ' -f 1 "$work/rounds" | sort -u); do
             printf '%-26s median %7.1f, best %7.1f ns a call (wanted: at most %s)\n' "$label" "$median" "$least" "$most"
             ;;
     esac
-done
+done < <(cut -d ' ' -f 1 "$work/rounds" | sort -u)

@@ -1,28 +1,21 @@
 #!/usr/bin/env bash
 # Looks at the built program's calls of the system on the first example, in their order, over a new database.
 #
-# usage: bench/calls.sh
+# usage: checks/calls.sh
 #
 # No contract can see whether the host over real files does sync what it says, and no test of the gate does. Here each
 # lock, write, cut and sync of the program, up to its end, must be the expected one: the log is locked; the folder is
 # synced once the files are made; a new log is written without its birth byte, synced, born, and synced; each commit is
 # written behind its closed gate, synced, its gate opened, and synced; and its reply is written behind that. It needs
-# `strace`. This is no part of the gate.
-set -eu
-top=$(cd "$(dirname "${BASH_SOURCE[0]}")/.." && pwd)
-work=$(mktemp -d)
-trap 'rm -rf "$work"' EXIT
-if ! command -v strace >/dev/null; then
-    echo "calls.sh: strace is missing" >&2
-    exit 69
-fi
-"$top/bin/hsql" "$work/built" </dev/null >/dev/null
-program="$top/crates/hsql/out/hsql"
+# `strace`.
+# shellcheck source=checks/shared.sh
+. "$(dirname "$(readlink -f "$0")")/shared.sh"
+needs strace
 
 # One call a line: its name, what it is of, and for a write how many bytes and, in a file, at which place.
 strace -y -o "$work/calls" -e trace=flock,write,pwrite64,ftruncate,fdatasync,fsync "$program" "$work/db" \
     <"$top/examples/first.sql" >"$work/output"
-cmp "$top/examples/first.out" "$work/output"
+same "$(cat "$top/examples/first.out")" "$(cat "$work/output")" "the first example"
 sed -n -E \
     -e "s#[<(]$work/#<#" \
     -e 's#^flock\([0-9]+<db\.([a-z.]+)>, LOCK_EX\|LOCK_NB\) = 0$#flock \1#p' \
@@ -56,11 +49,8 @@ fdatasync log
 write output 182
 write output 12
 END
-diff "$work/expected" "$work/seen"
+same "$(cat "$work/expected")" "$(cat "$work/seen")" "the calls"
 # Nothing that the patterns don't know was called.
-if [ "$(grep -c -v '^+++' "$work/calls")" != "$(wc -l <"$work/seen")" ]; then
-    echo "calls.sh: another call was seen" >&2
-    cat "$work/calls" >&2
-    exit 1
-fi
-echo "$(wc -l <"$work/seen") calls, each as expected: every commit is synced twice before its reply is written"
+same "$(wc -l <"$work/seen")" "$(grep -c -v '^+++' "$work/calls")" "how many calls there were"
+
+done_with "every commit is synced twice before its reply is written"
