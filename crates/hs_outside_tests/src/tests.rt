@@ -1,0 +1,3 @@
+// The crates that use the outside, by their public names.
+mod gates;
+mod logs;
