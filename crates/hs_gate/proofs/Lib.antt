@@ -1,6 +1,7 @@
+pub mod Batches
 pub mod Carried
-pub mod Failed
 pub mod Fronts
+pub mod Gates
 pub mod Looking
 pub mod Moments
 pub mod Numbers
@@ -10,4 +11,3 @@ pub mod Scanning
 pub mod Spelling
 pub mod Steps
 pub mod Torn
-pub mod Writes

@@ -145,9 +145,13 @@ impl<'a, F: Files<File = File>, R: Read + Drop, W: Write + Drop> Source for File
 
     ghost reads = { λ a b bytes. Unit {0} };
 
+    ghost makes_moment = { λ a b. Unit {0} };
+
     ghost nothing_read = { λ h. (refl, refl, refl) };
 
     ghost read_on = { λ a b c ab bc. (bc.0 ∙ ab.0, bc.1 ∙ ab.1, bc.2 ∙ ab.2) };
+
+    ghost reads_unread = { λ a b bytes told read. absurd told };
 
     fn read_input(&mut self, buf: &mut [u8]) -> Result<usize, HostFault> {
         let outcome = read_from(&mut self.reader, buf);
@@ -178,6 +182,12 @@ impl<'a, F: Files<File = File>, R: Read + Drop, W: Write + Drop> Host for FileHo
     ghost read_may_be_left = { λ h told honest file. absurd told };
 
     ghost reading_passes = { λ a b read told. absurd told };
+
+    ghost reading_takes = { λ a b read told. absurd told };
+
+    ghost reads_moment = { λ a b bytes told read made. absurd told };
+
+    ghost reads_asked = { λ a b bytes told read. absurd told };
 
     ghost reading_keeps_output = { λ a b read. (refl, read.0) };
 

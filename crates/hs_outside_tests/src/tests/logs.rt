@@ -1,5 +1,5 @@
 // A commit in the log of a database in memory.
-use crate::log_commit;
+use hs_log::log_commit;
 use hs_gate::Gated;
 use hs_host::{FileKind, Host};
 use hs_memhost::{CallList, Images, MemHost};

@@ -3,7 +3,7 @@ ghost use Rattle.std.specs.Prelude.{◌≤◌, IfOk};
 ghost use Rattle.hs_host.specs.Files.{IsOpen, IsHonest};
 ghost use Rattle.hs_gate.specs.Gated.{IsFront};
 
-use crate::{GateFault, Gated, Part};
+use hs_gate::{GateFault, Gated, Part};
 use hs_host::{FileKind, Host};
 use hs_memhost::{CallList, Images, MemHost};
 use hs_values::Bytes;
@@ -129,7 +129,7 @@ const FIRST: &[u8] = b"/*C1*/\nCREATE MEMORY TABLE T(ID INTEGER,V INTEGER)\nCOMM
 const SECOND: &[u8] = b"INSERT INTO T VALUES(1,10)\nCOMMIT\n";
 
 // The first two groups.
-#[tactic(auto, using(crate::proofs::Parts::first_place))]
+#[tactic(auto, using(hs_gate::proofs::Parts::first_place))]
 fn two_parts<H: Host>(
     alloc: Global,
     host: &mut H,
