@@ -1,5 +1,5 @@
 // Inputs with their items, written by hand.
-use crate::{EntryReader, InputFault, Item, MOST_BYTES};
+use hs_entries::{EntryReader, InputFault, Item, MOST_BYTES};
 use hs_memhost::{CallList, Images, MemHost};
 use hs_values::Bytes;
 use std::alloc::{AllocError, Global};
@@ -321,5 +321,23 @@ fn asks_for_64_kib_at_once(rt: HostRuntime) -> Result<(), Fail> {
     assert_eq!(rt; source.calls(), 2);
     assert!(rt; matches!(reader.next(&mut source), Ok(Item::Entry { number: 2, .. })));
     assert_eq!(rt; source.calls(), 3);
+    Ok(())
+}
+
+#[test]
+fn asks_for_nothing_behind_the_end(rt: HostRuntime) -> Result<(), Fail> {
+    let alloc = rt.alloc();
+    let input = Vec::from_slice(alloc, b"a:1")?;
+    let mut source = host(alloc, input, CallList::new(alloc), 9)?;
+    let mut reader = EntryReader::new(alloc, 9);
+
+    // One read brings the text, and one says that the input has ended.
+    assert!(rt; matches!(reader.next(&mut source), Ok(Item::Bad { number: 1 })));
+    assert_eq!(rt; source.calls(), 2);
+    for _ in 0..2 {
+        assert!(rt; reader.is_ready());
+        assert!(rt; matches!(reader.next(&mut source), Ok(Item::End)));
+        assert_eq!(rt; source.calls(), 2);
+    }
     Ok(())
 }
