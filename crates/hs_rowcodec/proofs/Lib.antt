@@ -1,0 +1,5 @@
+pub mod Numbers
+pub mod Rows
+pub mod Texts
+pub mod Values
+pub mod Widths

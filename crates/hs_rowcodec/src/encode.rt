@@ -1,0 +1,88 @@
+// The bytes of a row.
+ghost use Rattle.std.specs.Prelude.{◌≡◌, ◌++◌, ◌^◌, ◌<◌, true, length, take, OnOk, OnErr, IfOk, IsTrue, min};
+ghost use Rattle.std.specs.Int.{w16, w32, w64, w128, to_be_bytes};
+ghost use Rattle.hs_values.specs.SqlType.{fits_of};
+ghost use Rattle.hs_rowcodec.specs.Encoding.{signed_bytes, width_of, value_bytes, row_bytes, row_fits, is_storable, are_storable, IsWritable, AreWritable, Encodes};
+
+use hs_values::{Bytes, Row, SqlType, Types, Value};
+use std::alloc::{AllocError, Global};
+
+#[tactic(auto, unfolding(crate::specs::Encoding::signed_bytes))]
+/// Writes a whole number of a type.
+fn encode_whole(n: i64, sql_type: &SqlType, out: &mut Vec<u8>) -> Result<(), AllocError>
+    requires { fits_of sql_type.now (Value.Int n) ≡ true }
+    ensures ok { OnOk result (out.new.items ≡ out.old.items ++ signed_bytes (width_of sql_type.now) n) }
+    ensures err { OnErr result (out.new.items ≡ out.old.items) }
+{
+    match sql_type {
+        SqlType::Small => out.extend_from_slice(&(n as i16).to_be_bytes()),
+        SqlType::Integer => out.extend_from_slice(&(n as i32).to_be_bytes()),
+        _ => out.extend_from_slice(&n.to_be_bytes()),
+    }
+}
+
+#[tactic(auto, unfolding(crate::specs::Encoding::signed_bytes))]
+/// Writes the units of a decimal.
+fn encode_units(units: i128, out: &mut Vec<u8>) -> Result<(), AllocError>
+    ensures ok { OnOk result (out.new.items ≡ out.old.items ++ signed_bytes w128 units) }
+    ensures err { OnErr result (out.new.items ≡ out.old.items) }
+{
+    out.extend_from_slice(&units.to_be_bytes())
+}
+
+#[tactic(auto, unfolding(crate::specs::Encoding::signed_bytes))]
+/// Writes the number of a day.
+fn encode_day(day: i32, out: &mut Vec<u8>) -> Result<(), AllocError>
+    ensures ok { OnOk result (out.new.items ≡ out.old.items ++ signed_bytes w32 day) }
+    ensures err { OnErr result (out.new.items ≡ out.old.items) }
+{
+    out.extend_from_slice(&day.to_be_bytes())
+}
+
+#[tactic(auto, unfolding(crate::specs::Encoding::signed_bytes))]
+/// Writes microseconds.
+fn encode_micros(micros: i64, out: &mut Vec<u8>) -> Result<(), AllocError>
+    ensures ok { OnOk result (out.new.items ≡ out.old.items ++ signed_bytes w64 micros) }
+    ensures err { OnErr result (out.new.items ≡ out.old.items) }
+{
+    out.extend_from_slice(&micros.to_be_bytes())
+}
+
+/// Writes a text, behind its length.
+fn encode_text(text: &str, out: &mut Vec<u8>) -> Result<(), AllocError>
+    requires { length text.now < 2 ^ 16 }
+    ensures ok { OnOk result (out.new.items ≡ out.old.items ++ (to_be_bytes w16 (length text.now) ++ text.now)) }
+    ensures kept { take (length out.old.items) out.new.items ≡ out.old.items }
+{
+    let text = text.as_bytes();
+    out.extend_from_slice(&(text.len() as u16).to_be_bytes())?;
+    out.extend_from_slice(text)
+}
+
+#[tactic(auto, using(crate::proofs::Texts::text_is_short))]
+/// Writes a value behind its tag.
+fn encode_value(value: &Value, sql_type: &SqlType, out: &mut Vec<u8>) -> Result<(), AllocError>
+    requires fits { fits_of sql_type.now value.now ≡ true }
+    requires storable { is_storable sql_type.now ≡ true }
+    ensures ok { OnOk result (out.new.items ≡ out.old.items ++ value_bytes sql_type.now value.now) }
+    ensures writable { OnOk result (IsWritable value.now) }
+    ensures kept { take (length out.old.items) out.new.items ≡ out.old.items }
+{
+    if let Value::Null = value {
+        out.push(0)?;
+        return Ok(());
+    }
+    out.push(1)?;
+    match value {
+        Value::Null => Ok(()),
+        Value::Int(n) => encode_whole(*n, sql_type, out),
+        Value::Dec(d) => encode_units(d.units, out),
+        Value::Text(text) => encode_text(text.as_str(), out),
+        Value::Bool(b) => {
+            out.push(u8::from(*b))?;
+            Ok(())
+        }
+        Value::Day(day) => encode_day(*day, out),
+        Value::Micros(micros) => encode_micros(*micros, out),
+    }
+}
