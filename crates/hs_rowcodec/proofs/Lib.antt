@@ -1,3 +1,6 @@
+pub mod Appends
+pub mod Columns
+pub mod Fields
 pub mod Numbers
 pub mod Rows
 pub mod Texts

@@ -15,7 +15,7 @@ step types (Some found) = with_front found.0 (row_of types found.1)
 some_same : {A : Type 0} {a b : A} → ◌≡◌ {A = Option A} (Some a) (Some b) → a ≡ b
 some_same {A = A} {a = a} is = ap (λ (o : Option A). elim o as (λ _. A) [ None ↦ a | Some x ↦ x ]) is
 
-both : (a b : Bool) → (a && b) ≡ true → (a ≡ true) × (b ≡ true)
+pub both : (a b : Bool) → (a && b) ≡ true → (a ≡ true) × (b ≡ true)
 both true b is = (refl, is)
 both false b is = cc
 

@@ -1,5 +1,5 @@
 -- `IsUtf8` and its test, and how long a text of few characters is.
-use Rattle.std.proofs.Common.{◌≡◌, ℕ, ◌*◌, ◌+◌, ◌^◌, ◌<◌, ◌≤◌, Bool, true, false, nat_le, List, [], ◌∷◌, length, IsUtf8, refl, sym, ap, ◌∙◌, arith, length-append}
+use Rattle.std.proofs.Common.{◌≡◌, ℕ, ◌*◌, ◌+◌, ◌^◌, ◌<◌, ◌≤◌, Bool, true, false, nat_le, List, [], ◌∷◌, length, IsUtf8, refl, sym, ap, subst, ◌∙◌, arith, length-append}
 use Rattle.std.specs.Str.{is_utf8, chars}
 use Rattle.std.specs.Char.{len_utf8}
 use Rattle.std.proofs.Math.Utf8.{encodes, encode}
@@ -7,9 +7,10 @@ use Rattle.std.proofs.lemmas.Str.{IsUtf8-from_is_utf8, is_utf8-from_IsUtf8, char
 use Rattle.std.proofs.lemmas.Bool.{leb-true}
 use Rattle.hs_values.specs.declared.sql_type.SqlType.{SqlType}
 use Rattle.hs_values.specs.declared.sql_type.SqlType.TheVariants as t
+use Rattle.hs_values.specs.declared.value.Value.{Value}
 use Rattle.hs_values.specs.declared.value.Value.TheVariants as v
 use Rattle.hs_values.specs.SqlType.{fits_of}
-use Rattle.hs_rowcodec.specs.Encoding.{is_storable}
+use Rattle.hs_rowcodec.specs.Encoding.{is_storable, IsWritable}
 
 pub text_passes : (bytes : List ℕ) → IsUtf8 bytes → is_utf8 bytes ≡ true
 text_passes bytes spelled = is_utf8-from_IsUtf8 bytes spelled
@@ -40,3 +41,8 @@ text_is_short (t.Varchar most) text spelled fits storable =
     let len = ap length spelled.1.1 in
     omega (arith, few, least, count, len, length-encodes spelled.0)
 text_is_short sql_type text spelled fits storable = cc
+
+-- and can be written
+pub text_is_writable : (sql_type : SqlType) (value : Value) (text : List ℕ) → value ≡ v.Text text → IsUtf8 text → fits_of sql_type value ≡ true → is_storable sql_type ≡ true → IsWritable value
+text_is_writable sql_type value text is spelled fits storable =
+    subst IsWritable (sym is) (spelled, text_is_short sql_type text spelled (ap (fits_of sql_type) (sym is) ∙ fits) storable)

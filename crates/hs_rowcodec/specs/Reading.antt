@@ -1,6 +1,7 @@
 -- The row that bytes encode, read from the left: a value at the front, and what stands behind it.
 use Rattle.std.specs.Prelude.{ℕ, ◌+◌, ◌*◌, Bool, true, false, ◌==◌, ◌&&◌, nat_le, if◌then◌else◌, List, [], ◌∷◌, length, take, drop, Option, Some, None, is_some, ℤ}
 use Rattle.std.specs.Int.{Width, w16, w32, w64, w128, cast_signed, from_be_bytes}
+use Rattle.std.specs.Option.{unwrap_or}
 use Rattle.std.specs.Str.{is_utf8}
 use Rattle.hs_values.specs.declared.sql_type.SqlType.{SqlType}
 use Rattle.hs_values.specs.declared.sql_type.SqlType.TheVariants as t
@@ -76,3 +77,7 @@ row_of [] [] = Some []
 row_of [] (b ∷ bytes) = None
 row_of (sql_type ∷ types) bytes =
     elim (value_at sql_type bytes) [ None ↦ None | Some found ↦ with_front found.0 (row_of types found.1) ]
+
+-- the values of that row
+abbrev pub values_in : List SqlType → List ℕ → List Value
+values_in types bytes = unwrap_or (row_of types bytes) []

@@ -86,3 +86,46 @@ fn encode_value(value: &Value, sql_type: &SqlType, out: &mut Vec<u8>) -> Result<
         Value::Micros(micros) => encode_micros(*micros, out),
     }
 }
+
+/// Writes the values of a row.
+fn encode_values(row: &[Value], types: &[SqlType], out: &mut Vec<u8>) -> Result<(), AllocError>
+    requires fits { row_fits types.now row.now ≡ true }
+    requires storable { are_storable types.now ≡ true }
+    ensures ok { OnOk result (out.new.items ≡ out.old.items ++ row_bytes types.now row.now) }
+    ensures writable { OnOk result (AreWritable row.now) }
+    ensures kept { take (length out.old.items) out.new.items ≡ out.old.items }
+{
+    for (i, sql_type) in types.iter().enumerate() {
+        encode_value(&row[i], sql_type, out)?;
+    }
+    Ok(())
+}
+
+/// Writes the encoding of a row behind the bytes that are there. The row has one value for each of the
+/// types, each one of its own type's, and the types' texts have at most 16,383 characters, so that their
+/// lengths fit 2 bytes. After an `Err`, which is want of memory, nothing is changed.
+pub fn encode_onto(row: &Row, types: &Types, out: &mut Vec<u8>) -> Result<(), AllocError>
+    requires fits { row_fits types.now row.now ≡ true }
+    requires storable { are_storable types.now ≡ true }
+    ensures ok { OnOk result (out.new.items ≡ out.old.items ++ row_bytes types.now row.now) }
+    ensures encodes { OnOk result (Encodes types.now row.now (row_bytes types.now row.now)) }
+    ensures err { OnErr result (out.new.items ≡ out.old.items) }
+{
+    let len = out.len();
+    let done = encode_values(row.as_slice(), types.as_slice(), out);
+    if done.is_err() {
+        out.truncate(len);
+    }
+    done
+}
+
+/// The encoding of a row.
+pub fn encode(alloc: Global, row: &Row, types: &Types) -> Result<Bytes, AllocError>
+    requires fits { row_fits types.now row.now ≡ true }
+    requires storable { are_storable types.now ≡ true }
+    ensures { IfOk result (λ bytes. Encodes types.now row.now bytes) }
+{
+    let mut bytes = Vec::new(alloc);
+    encode_values(row.as_slice(), types.as_slice(), &mut bytes)?;
+    Ok(Bytes::from_vec(bytes))
+}

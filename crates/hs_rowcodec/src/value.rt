@@ -94,14 +94,55 @@ pub(crate) fn value<'a>(sql_type: &SqlType, bytes: &'a [u8]) -> Option<(ValueRef
     }
 }
 
+/// A text of so many bytes that is known to stand at the front, and the bytes behind it.
+#[inline]
+fn known_chars(len: usize, bytes: &[u8]) -> (ValueRef<'_>, &[u8])
+    requires { is_some (chars_at len bytes.now) ≡ true }
+    ensures { chars_at len bytes.now ≡ Some (seen result.0, result.1.now) }
+{
+    let (text, rest) = bytes.split_at(len);
+    let text = unsafe { std::str::from_utf8_unchecked(text) };
+    (ValueRef::Text(text), rest)
+}
+
+/// A text that is known to stand at the front, behind its length.
+#[inline]
+fn known_text(bytes: &[u8]) -> (ValueRef<'_>, &[u8])
+    requires { is_some (text_at bytes.now) ≡ true }
+    ensures { text_at bytes.now ≡ Some (seen result.0, result.1.now) }
+{
+    match bytes {
+        [high, low, rest @ ..] => {
+            known_chars(usize::from(*high) * 256 + usize::from(*low), rest)
+        }
+        _ => unreachable!(),
+    }
+}
+
+/// What is known to stand behind a tag.
+#[inline]
+fn known_body<'a>(sql_type: &SqlType, bytes: &'a [u8]) -> (ValueRef<'a>, &'a [u8])
+    requires { is_some (body_at sql_type.now bytes.now) ≡ true }
+    ensures { body_at sql_type.now bytes.now ≡ Some (seen result.0, result.1.now) }
+{
+    if let SqlType::Varchar { max: _ } = sql_type {
+        return known_text(bytes);
+    }
+    match body(sql_type, bytes) {
+        Some(found) => found,
+        None => unreachable!(),
+    }
+}
+
 /// The value at the front of bytes where one of this type is known to stand, and the bytes behind it.
 #[inline]
 pub(crate) fn known_value<'a>(sql_type: &SqlType, bytes: &'a [u8]) -> (ValueRef<'a>, &'a [u8])
     requires { is_some (value_at sql_type.now bytes.now) ≡ true }
     ensures { value_at sql_type.now bytes.now ≡ Some (seen result.0, result.1.now) }
 {
-    match value(sql_type, bytes) {
-        Some(found) => found,
-        None => unreachable!(),
+    match bytes {
+        [] => unreachable!(),
+        [0, rest @ ..] => (ValueRef::Null, rest),
+        [_, behind @ ..] => known_body(sql_type, behind),
     }
 }

@@ -1,6 +1,7 @@
 // A row seen in its bytes.
-ghost use Rattle.std.specs.Prelude.{◌≡◌, ◌<◌, Some, None, true, List, length, is_some, IsTrue, IfSome, IfNone, IfOk, slice_get, ◌↔◌};
-ghost use Rattle.hs_rowcodec.specs.Reading.{row_of};
+ghost use Rattle.std.specs.Prelude.{◌≡◌, ◌<◌, ◌≤◌, drop, Some, None, true, List, length, is_some, IsTrue, IfSome, IfNone, IfOk, slice_get, ◌↔◌};
+ghost use Rattle.hs_values.specs.Order.{seen};
+ghost use Rattle.hs_rowcodec.specs.Reading.{row_of, values_in};
 
 use crate::value::{known_value, value};
 use hs_values::{Row, SqlType, Types, ValueRef};
@@ -20,6 +21,32 @@ fn is_encoding(types: &[SqlType], bytes: &[u8]) -> bool
     rest.is_empty()
 }
 
+/// The bytes behind so many of a row's values.
+#[inline]
+fn behind<'a>(types: &[SqlType], count: usize, bytes: &'a [u8]) -> &'a [u8]
+    requires there { count ≤ length types.now }
+    requires encoded { is_some (row_of types.now bytes.now) ≡ true }
+    ensures encoded { is_some (row_of (drop count types.now) result.now) ≡ true }
+    ensures values { values_in (drop count types.now) result.now ≡ drop count (values_in types.now bytes.now) }
+{
+    let mut rest = bytes;
+    for sql_type in &types[..count] {
+        rest = known_value(sql_type, rest).1;
+    }
+    rest
+}
+
+/// The value of a column of a row.
+#[inline]
+fn field_of<'a>(types: &[SqlType], i: usize, bytes: &'a [u8]) -> ValueRef<'a>
+    requires there { i < length types.now }
+    requires encoded { is_some (row_of types.now bytes.now) ≡ true }
+    ensures { slice_get (values_in types.now bytes.now) i ≡ Some (seen result) }
+{
+    let rest = behind(types, i, bytes);
+    known_value(&types[i], rest).0
+}
+
 /// A row of given types, seen in the bytes that encode it: its fields are lent from them.
 #[derive(Clone, Copy)]
 pub struct RowView<'a> {
@@ -29,7 +56,6 @@ pub struct RowView<'a> {
 }
 
 impl<'a> RowView<'a> {
-    ghost use Rattle.hs_values.specs.Order.{seen};
     ghost use Rattle.hs_values.specs.declared.value.Value.{Value};
     ghost use Rattle.hs_rowcodec.specs.Encoding.{Encodes};
     ghost use Rattle.hs_rowcodec.specs.View.{row_in};
@@ -46,24 +72,18 @@ impl<'a> RowView<'a> {
         }
     }
 
+    /// The number of its columns.
     pub fn len(&self) -> usize
         ensures { result ≡ length (row_in self.now) }
     {
         self.types.len()
     }
 
+    /// The field of column `i`, counted from 0, lent from the bytes. Takes no memory.
     pub fn field(&self, i: usize) -> ValueRef<'a>
         requires { i < length (row_in self.now) }
         ensures { slice_get (row_in self.now) i ≡ Some (seen result) }
     {
-        let mut rest = self.bytes;
-        for (k, sql_type) in self.types.iter().enumerate() {
-            let (found, behind) = known_value(sql_type, rest);
-            if k == i {
-                return found;
-            }
-            rest = behind;
-        }
-        unreachable!()
+        field_of(self.types, i, self.bytes)
     }
 }
