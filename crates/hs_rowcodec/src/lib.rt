@@ -1,9 +1,13 @@
 //! Rows in bytes: the encoding of a row of given types, and a view that lends its fields.
 #![tactic(auto)]
 
-mod encode;
+mod encoding;
 mod fits;
+pub mod laws;
+mod length;
 mod value;
 mod view;
 
+pub use encoding::{encode, encode_onto};
+pub use length::encoded_len;
 pub use view::RowView;

@@ -3,8 +3,8 @@ ghost use Rattle.std.specs.Prelude.{◌≡◌, ◌<◌, ◌≤◌, drop, Some, N
 ghost use Rattle.hs_values.specs.Order.{seen};
 ghost use Rattle.hs_rowcodec.specs.Reading.{row_of, values_in};
 
-use crate::value::{known_value, value};
-use hs_values::{Row, SqlType, Types, ValueRef};
+use crate::value::{known_value, to_value, value};
+use hs_values::{Row, SqlType, Types, Value, ValueRef};
 use std::alloc::{AllocError, Global};
 
 /// Whether bytes are the encoding of a row of these types.
@@ -47,6 +47,21 @@ fn field_of<'a>(types: &[SqlType], i: usize, bytes: &'a [u8]) -> ValueRef<'a>
     known_value(&types[i], rest).0
 }
 
+/// The values of a row.
+fn values_of(alloc: Global, types: &[SqlType], bytes: &[u8]) -> Result<Vec<Value>, AllocError>
+    requires { is_some (row_of types.now bytes.now) ≡ true }
+    ensures { IfOk result (λ values. values.items ≡ values_in types.now bytes.now) }
+{
+    let mut values = Vec::with_capacity(alloc, types.len())?;
+    let mut rest = bytes;
+    for sql_type in types {
+        let (found, behind) = known_value(sql_type, rest);
+        values.push(to_value(found, alloc)?)?;
+        rest = behind;
+    }
+    Ok(values)
+}
+
 /// A row of given types, seen in the bytes that encode it: its fields are lent from them.
 #[derive(Clone, Copy)]
 pub struct RowView<'a> {
@@ -85,5 +100,12 @@ impl<'a> RowView<'a> {
         ensures { slice_get (row_in self.now) i ≡ Some (seen result) }
     {
         field_of(self.types, i, self.bytes)
+    }
+
+    /// The row in memory of its own. An `Err` is want of it.
+    pub fn to_row(&self, alloc: Global) -> Result<Row, AllocError>
+        ensures { IfOk result (λ row. row ≡ row_in self.now) }
+    {
+        Ok(Row::from_vec(values_of(alloc, self.types, self.bytes)?))
     }
 }

@@ -1,7 +1,7 @@
 -- What is written, with the bytes of the columns that are left, are the bytes of all.
 use Rattle.std.proofs.Common.{◌≡◌, ◌++◌, drop, take, length}
 use Rattle.hs_rowcodec.specs.Encoding.{row_bytes, AreWritable}
-use Rattle.hs_rowcodec.proofs.encode.encode_values.Given as goal
+use Rattle.hs_rowcodec.proofs.encoding.encode_values.Given as goal
 
 abbrev pub invariant-loop-i : goal.invariant-loop-i
 invariant-loop-i l =

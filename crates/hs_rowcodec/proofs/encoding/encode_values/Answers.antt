@@ -2,7 +2,7 @@ use Rattle.std.proofs.Common.{◌≡◌, ◌<◌, true, length, sym, ap, subst, 
 use Rattle.hs_values.specs.SqlType.{fits_of}
 use Rattle.hs_rowcodec.specs.Encoding.{IsWritable}
 use Rattle.hs_rowcodec.proofs.Columns.{row_is_as_long, value_fits, column_written, columns_writable, kept_more}
-use Rattle.hs_rowcodec.proofs.encode.encode_values.Goals as goal
+use Rattle.hs_rowcodec.proofs.encoding.encode_values.Goals as goal
 
 pub encode_value-requires-clause-fits : goal.encode_value-requires-clause-fits
 encode_value-requires-clause-fits c =

@@ -1,7 +1,7 @@
 use Rattle.std.proofs.Common.{IsUtf8, subst}
 use Rattle.hs_rowcodec.proofs.Appends.{on_ok}
 use Rattle.hs_rowcodec.proofs.Texts.{text_is_writable}
-use Rattle.hs_rowcodec.proofs.encode.encode_value.Goals as goal
+use Rattle.hs_rowcodec.proofs.encoding.encode_value.Goals as goal
 
 pub returns-in-Text-clause-writable : goal.returns-in-Text-clause-writable
 returns-in-Text-clause-writable c =

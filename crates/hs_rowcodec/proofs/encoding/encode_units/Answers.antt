@@ -3,7 +3,7 @@ use Rattle.std.proofs.lemmas.Int.{to_z-of_z}
 use Rattle.std.specs.Int.{w128, to_be_bytes, cast_unsigned}
 use Rattle.hs_rowcodec.specs.Encoding.{signed_bytes}
 use Rattle.hs_rowcodec.proofs.Appends.{appended}
-use Rattle.hs_rowcodec.proofs.encode.encode_units.Goals as goal
+use Rattle.hs_rowcodec.proofs.encoding.encode_units.Goals as goal
 
 pub returns-clause-ok : goal.returns-clause-ok
 unfolding signed_bytes

@@ -4,6 +4,7 @@ ghost use Rattle.std.specs.Int.{w16, w32, w64, w128, to_be_bytes};
 ghost use Rattle.hs_values.specs.SqlType.{fits_of};
 ghost use Rattle.hs_rowcodec.specs.Encoding.{signed_bytes, width_of, value_bytes, row_bytes, row_fits, is_storable, are_storable, IsWritable, AreWritable, Encodes};
 
+use crate::length::encoded_len;
 use hs_values::{Bytes, Row, SqlType, Types, Value};
 use std::alloc::{AllocError, Global};
 
@@ -101,9 +102,10 @@ fn encode_values(row: &[Value], types: &[SqlType], out: &mut Vec<u8>) -> Result<
     Ok(())
 }
 
-/// Writes the encoding of a row behind the bytes that are there. The row has one value for each of the
-/// types, each one of its own type's, and the types' texts have at most 16,383 characters, so that their
-/// lengths fit 2 bytes. After an `Err`, which is want of memory, nothing is changed.
+/// Writes the encoding of a row behind the bytes that are there, which are not moved where there is room.
+/// The row has one value for each of the types, each one of its own type's. A VARCHAR has at most 16,383
+/// characters, so that the length of a text has 2 bytes. After an `Err`, which is want of memory, nothing is
+/// changed.
 pub fn encode_onto(row: &Row, types: &Types, out: &mut Vec<u8>) -> Result<(), AllocError>
     requires fits { row_fits types.now row.now ≡ true }
     requires storable { are_storable types.now ≡ true }
@@ -119,13 +121,14 @@ pub fn encode_onto(row: &Row, types: &Types, out: &mut Vec<u8>) -> Result<(), Al
     done
 }
 
-/// The encoding of a row.
+/// The encoding of a row, which has one value for each of the types, each one of its own type's. A VARCHAR
+/// has at most 16,383 characters, so that the length of a text has 2 bytes. An `Err` is want of memory.
 pub fn encode(alloc: Global, row: &Row, types: &Types) -> Result<Bytes, AllocError>
     requires fits { row_fits types.now row.now ≡ true }
     requires storable { are_storable types.now ≡ true }
     ensures { IfOk result (λ bytes. Encodes types.now row.now bytes) }
 {
-    let mut bytes = Vec::new(alloc);
+    let mut bytes = Vec::with_capacity(alloc, encoded_len(row, types))?;
     encode_values(row.as_slice(), types.as_slice(), &mut bytes)?;
     Ok(Bytes::from_vec(bytes))
 }
