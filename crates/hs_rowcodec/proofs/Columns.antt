@@ -1,11 +1,11 @@
 -- A row and its types, column by column.
-use Rattle.std.proofs.Common.{◌≡◌, ℕ, zero, suc, ◌+◌, ◌<◌, Bool, true, ◌&&◌, List, [], ◌∷◌, ◌++◌, length, drop, take, get_or, refl, sym, ap, subst, ◌∙◌, arith, append_assoc}
+use Rattle.std.proofs.Common.{◌≡◌, ℕ, zero, suc, ◌+◌, ◌-◌, ◌^◌, ◌<◌, ◌≤◌, min, Bool, true, ◌&&◌, List, [], ◌∷◌, ◌++◌, length, drop, take, get_or, refl, sym, ap, subst, ◌∙◌, arith, append_assoc, length-append}
 use Rattle.std.specs.List.{list_all}
 use Rattle.std.proofs.lemmas.List.{drop_more}
 use Rattle.hs_values.specs.declared.sql_type.SqlType.{SqlType}
 use Rattle.hs_values.specs.declared.value.Value.{Value}
-use Rattle.hs_values.specs.SqlType.{fits_of}
-use Rattle.hs_rowcodec.specs.Encoding.{value_bytes, row_bytes, row_fits, is_storable, are_storable, IsWritable, AreWritable}
+use Rattle.hs_values.specs.SqlType.{fits_of, row_fits}
+use Rattle.hs_rowcodec.specs.Encoding.{value_bytes, row_bytes, is_storable, are_storable, IsWritable, AreWritable}
 use Rattle.hs_rowcodec.proofs.Rows.{both}
 
 pub row_is_as_long : (types : List SqlType) (row : List Value) → row_fits types row ≡ true → length types ≡ length row
@@ -53,3 +53,27 @@ kept_more (x ∷ before) (y ∷ out) (z ∷ new) first second =
     let head : z ≡ x = ap (head_of z) second ∙ ap (head_of y) first in
     let tail = kept_more before out new (ap (drop 1) first) (ap (drop 1) second) in
     λ i. head i ∷ tail i
+
+-- the columns from i on have as many bytes as the first of them and the others
+pub column_counted : (types : List SqlType) (row : List Value) (i : ℕ) (d : SqlType) (value : Value) (len : ℕ) → i < length types → i < length row → value ≡ get_or row i value → len ≡ length (value_bytes (get_or types i d) value) → length (row_bytes (drop i types) (drop i row)) ≡ len + length (row_bytes (drop (i + 1) types) (drop (i + 1) row))
+column_counted types row i d value len within there is counted =
+    ap length (column_bytes types row i d value within there)
+    ∙ length-append (value_bytes (get_or types i d) (get_or row i value)) _
+    ∙ ap (λ v. length (value_bytes (get_or types i d) v) + length (row_bytes (drop (i + 1) types) (drop (i + 1) row))) (sym is)
+    ∙ ap (λ n. n + length (row_bytes (drop (i + 1) types) (drop (i + 1) row))) (sym counted)
+
+-- counting up to a limit, one column more
+pub counted : (len more rest behind total new : ℕ) → (min (len + rest) (2 ^ 64 - 1) ≡ total) × (len ≤ 2 ^ 64 - 1) → rest ≡ more + behind → new ≡ min (len + more) (2 ^ 64 - 1) → (min (new + behind) (2 ^ 64 - 1) ≡ total) × (new ≤ 2 ^ 64 - 1)
+counted len more rest behind total new so_far is now = (omega (arith, so_far.0, so_far.1, is, now), omega (arith, now))
+
+nothing_behind : (types : List SqlType) (i : ℕ) → length types ≤ i → drop i types ≡ []
+nothing_behind [] zero end = refl
+nothing_behind [] (suc i) end = refl
+nothing_behind (sql_type ∷ types) zero end = absurd (omega (arith, end))
+nothing_behind (sql_type ∷ types) (suc i) end = nothing_behind types i (omega (arith, end))
+
+-- and no column more
+pub none_left : (types : List SqlType) (row : List Value) (i len total : ℕ) → length types ≤ i → (min (len + length (row_bytes (drop i types) (drop i row))) (2 ^ 64 - 1) ≡ total) × (len ≤ 2 ^ 64 - 1) → len ≡ total
+none_left types row i len total end so_far =
+    let none : length (row_bytes (drop i types) (drop i row)) ≡ 0 = ap (λ (ts : List SqlType). length (row_bytes ts (drop i row))) (nothing_behind types i end) in
+    omega (arith, so_far.0, so_far.1, none)

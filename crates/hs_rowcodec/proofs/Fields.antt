@@ -17,7 +17,7 @@ is_encoded types bytes small some = by (row_of types bytes) refl some
   where
     by : (read : Option (List Value)) → row_of types bytes ≡ read → is_some read ≡ true → Encodes types (unwrap_or read []) bytes
     by None is some = cc
-    by (Some row) is some = row_written types bytes row small is
+    by (Some row) is some = row_written types row bytes small is
 
 pub is_not_encoded : (types : List SqlType) (bytes : List ℕ) → is_some (row_of types bytes) ≡ false → (row : List Value) → Encodes types row bytes → ⊥
 is_not_encoded types bytes none row encodes = let is = ap (λ o. is_some o) (read_as types row bytes encodes) in cc

@@ -4,7 +4,8 @@ use Rattle.std.proofs.lemmas.List.{get_or-append-add}
 use Rattle.std.specs.Cmp.Derive.{both_true}
 use Rattle.hs_values.specs.declared.sql_type.SqlType.{SqlType}
 use Rattle.hs_values.specs.declared.value.Value.{Value}
-use Rattle.hs_rowcodec.specs.Encoding.{AreBytes, value_bytes, row_bytes, row_fits, AreWritable, Encodes}
+use Rattle.hs_values.specs.SqlType.{row_fits}
+use Rattle.hs_rowcodec.specs.Encoding.{AreBytes, value_bytes, row_bytes, AreWritable, Encodes}
 use Rattle.hs_rowcodec.specs.Reading.{value_at, with_front, row_of}
 use Rattle.hs_rowcodec.proofs.Values.{value_read, value_written}
 
@@ -49,12 +50,12 @@ by_front sql_type types bytes row small encodes None at is = cc
 by_front sql_type types bytes row small encodes (Some found) at is = joined sql_type types bytes row small found.0 found.1 at (encodes found.1) (row_of types found.1) refl is
 
 -- and what is read has these bytes
-pub row_written : (types : List SqlType) (bytes : List ℕ) (row : List Value) → AreBytes bytes → row_of types bytes ≡ Some row → Encodes types row bytes
+pub row_written : (types : List SqlType) (row : List Value) (bytes : List ℕ) → AreBytes bytes → row_of types bytes ≡ Some row → Encodes types row bytes
 unfolding step
-row_written [] [] row small is = subst (λ (r : List Value). Encodes [] r []) (some_same is) (record { fits = refl; writable = tt; spelled = refl })
-row_written [] (b ∷ bytes) row small is = cc
-row_written (sql_type ∷ types) bytes row small is =
-    by_front sql_type types bytes row small (λ rest small' behind read. row_written types rest behind small' read) (value_at sql_type bytes) refl is
+row_written [] row [] small is = subst (λ (r : List Value). Encodes [] r []) (some_same is) (record { fits = refl; writable = tt; spelled = refl })
+row_written [] row (b ∷ bytes) small is = cc
+row_written (sql_type ∷ types) row bytes small is =
+    by_front sql_type types bytes row small (λ rest small' behind read. row_written types behind rest small' read) (value_at sql_type bytes) refl is
 
 pub read_as : (types : List SqlType) (row : List Value) (bytes : List ℕ) → Encodes types row bytes → row_of types bytes ≡ Some row
 read_as types row bytes encodes = ap (row_of types) (sym encodes.spelled) ∙ row_read types row encodes.fits encodes.writable

@@ -7,7 +7,8 @@ use Rattle.std.proofs.lemmas.Int.{fits_signed_from_abs, ints}
 use Rattle.std.proofs.Math.Nat.{pow-le-pow_right}
 use Rattle.hs_values.proofs.DecimalWidths.{narrow}
 use Rattle.hs_values.specs.declared.value.Dec.{Dec}
-use Rattle.hs_values.specs.SqlType.{is_signed, is_day, is_moment, has_digits}
+use Rattle.hs_values.specs.SqlType.{is_signed, has_digits}
+use Rattle.hs_values.specs.Years.{is_day, is_moment}
 
 pub small_fits : (n : ℤ) → is_signed 15 n ≡ true → FitsSigned w16 n
 small_fits (pos n) fits = record { sfits = grind arith }

@@ -1,13 +1,12 @@
 -- The bytes of a row.
 use Rattle.std.specs.Prelude.{◌≡◌, ℕ, ◌^◌, ◌<◌, ℤ, Bool, true, if◌then◌else◌, List, [], ◌∷◌, ◌++◌, length, slice_index, nat_le, IsUtf8}
 use Rattle.std.specs.List.{list_all}
-use Rattle.std.specs.Cmp.Lexicographic.{pointwise}
 use Rattle.std.specs.Int.{Width, w16, w32, w64, w128, cast_unsigned, to_be_bytes}
 use Rattle.hs_values.specs.declared.sql_type.SqlType.{SqlType}
 use Rattle.hs_values.specs.declared.sql_type.SqlType.TheVariants as t
 use Rattle.hs_values.specs.declared.value.Value.{Value}
 use Rattle.hs_values.specs.declared.value.Value.TheVariants as v
-use Rattle.hs_values.specs.SqlType.{fits_of}
+use Rattle.hs_values.specs.SqlType.{row_fits}
 
 -- numbers that are bytes, as those of every slice of `u8`
 abbrev pub AreBytes : List ℕ → Type 0
@@ -22,10 +21,6 @@ abbrev pub width_of : SqlType → Width
 width_of t.Small = w16
 width_of t.Integer = w32
 width_of _ = w64
-
--- a row with as many values as there are types, each one of its own type's
-abbrev pub row_fits : List SqlType → List Value → Bool
-row_fits = pointwise fits_of
 
 -- what stands behind the tag of a value that is not NULL
 abbrev pub body_bytes : SqlType → Value → List ℕ

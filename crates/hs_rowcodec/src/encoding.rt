@@ -1,8 +1,8 @@
 // The bytes of a row.
 ghost use Rattle.std.specs.Prelude.{◌≡◌, ◌++◌, ◌^◌, ◌<◌, true, length, take, OnOk, OnErr, IfOk, IsTrue, min};
 ghost use Rattle.std.specs.Int.{w16, w32, w64, w128, to_be_bytes};
-ghost use Rattle.hs_values.specs.SqlType.{fits_of};
-ghost use Rattle.hs_rowcodec.specs.Encoding.{signed_bytes, width_of, value_bytes, row_bytes, row_fits, is_storable, are_storable, IsWritable, AreWritable, Encodes};
+ghost use Rattle.hs_values.specs.SqlType.{fits_of, row_fits};
+ghost use Rattle.hs_rowcodec.specs.Encoding.{signed_bytes, width_of, value_bytes, row_bytes, is_storable, are_storable, IsWritable, AreWritable, Encodes};
 
 use crate::length::encoded_len;
 use hs_values::{Bytes, Row, SqlType, Types, Value};

@@ -1,7 +1,7 @@
 // How many bytes the encoding of a row has.
 ghost use Rattle.std.specs.Prelude.{◌≡◌, ◌≤◌, true, length, min};
-ghost use Rattle.hs_values.specs.SqlType.{fits_of};
-ghost use Rattle.hs_rowcodec.specs.Encoding.{value_bytes, row_bytes, row_fits, is_storable, are_storable};
+ghost use Rattle.hs_values.specs.SqlType.{fits_of, row_fits};
+ghost use Rattle.hs_rowcodec.specs.Encoding.{value_bytes, row_bytes, is_storable, are_storable};
 
 use hs_values::{Row, SqlType, Types, Value};
 
@@ -20,7 +20,7 @@ fn value_len(value: &Value, sql_type: &SqlType) -> usize
             _ => 9,
         },
         Value::Dec(_) => 17,
-        Value::Text(text) => 3 + text.len(),
+        Value::Text(text) => 3 + text.as_str().len(),
         Value::Bool(_) => 2,
         Value::Day(_) => 5,
         Value::Micros(_) => 9,

@@ -2,7 +2,6 @@
 #![tactic(auto)]
 
 mod encoding;
-mod fits;
 pub mod laws;
 mod length;
 mod value;

@@ -1,13 +1,10 @@
 // One value in its bytes.
-ghost use Rattle.std.specs.Prelude.{◌≡◌, true, false, IfNone, IfSome, IfOk, Some, None, is_some};
+ghost use Rattle.std.specs.Prelude.{◌≡◌, true, false, IfNone, IfSome, Some, None, is_some};
 ghost use Rattle.std.specs.Str.{is_utf8};
 ghost use Rattle.hs_values.specs.Order.{seen};
-ghost use Rattle.hs_values.specs.SqlType.{fits_of};
 ghost use Rattle.hs_rowcodec.specs.Reading.{chars_at, text_at, truth_at, body_at, value_at};
 
-use crate::fits::fits;
-use hs_values::{Chars, Dec, SqlType, Value, ValueRef};
-use std::alloc::{AllocError, Global};
+use hs_values::{Dec, SqlType, ValueRef};
 
 #[tactic(auto, using(crate::proofs::Texts::text_passes, crate::proofs::Texts::no_text_fails))]
 /// The bytes as a text, where they are UTF-8.
@@ -85,7 +82,7 @@ pub(crate) fn value<'a>(sql_type: &SqlType, bytes: &'a [u8]) -> Option<(ValueRef
         [0, rest @ ..] => Some((ValueRef::Null, rest)),
         [1, behind @ ..] => {
             let (found, rest) = body(sql_type, behind)?;
-            if fits(sql_type, found) {
+            if found.fits(sql_type) {
                 Some((found, rest))
             } else {
                 None
@@ -145,20 +142,5 @@ pub(crate) fn known_value<'a>(sql_type: &SqlType, bytes: &'a [u8]) -> (ValueRef<
         [] => unreachable!(),
         [0, rest @ ..] => (ValueRef::Null, rest),
         [_, behind @ ..] => known_body(sql_type, behind),
-    }
-}
-
-/// The same value, its text copied.
-pub(crate) fn to_value(value: ValueRef<'_>, alloc: Global) -> Result<Value, AllocError>
-    ensures { IfOk result (λ copied. copied ≡ seen value.entry) }
-{
-    match value {
-        ValueRef::Null => Ok(Value::Null),
-        ValueRef::Int(n) => Ok(Value::Int(n)),
-        ValueRef::Dec(d) => Ok(Value::Dec(d)),
-        ValueRef::Text(t) => Ok(Value::Text(Chars::from_text(alloc, t)?)),
-        ValueRef::Bool(b) => Ok(Value::Bool(b)),
-        ValueRef::Day(d) => Ok(Value::Day(d)),
-        ValueRef::Micros(m) => Ok(Value::Micros(m)),
     }
 }

@@ -3,7 +3,7 @@ ghost use Rattle.std.specs.Prelude.{◌≡◌, ◌<◌, ◌≤◌, drop, Some, N
 ghost use Rattle.hs_values.specs.Order.{seen};
 ghost use Rattle.hs_rowcodec.specs.Reading.{row_of, values_in};
 
-use crate::value::{known_value, to_value, value};
+use crate::value::{known_value, value};
 use hs_values::{Row, SqlType, Types, Value, ValueRef};
 use std::alloc::{AllocError, Global};
 
@@ -56,7 +56,7 @@ fn values_of(alloc: Global, types: &[SqlType], bytes: &[u8]) -> Result<Vec<Value
     let mut rest = bytes;
     for sql_type in types {
         let (found, behind) = known_value(sql_type, rest);
-        values.push(to_value(found, alloc)?)?;
+        values.push(found.to_value(alloc)?)?;
         rest = behind;
     }
     Ok(values)
