@@ -37,6 +37,7 @@ value_behind sql_type types bytes value rest at some = by (row_of types rest) re
   where
     whole : row_of (sql_type ∷ types) bytes ≡ with_front value (row_of types rest)
     whole = ap (λ (found : Option (Value × List ℕ)). elim found as (λ _. Option (List Value)) [ None ↦ None | Some p ↦ with_front p.0 (row_of types p.1) ]) at
+
     by : (read : Option (List Value)) → row_of types rest ≡ read → (is_some (row_of types rest) ≡ true) × (values_in (sql_type ∷ types) bytes ≡ value ∷ values_in types rest)
     by None is = let there = sym (ap (λ o. is_some o) (whole ∙ ap (with_front value) is)) ∙ some in cc
     by (Some row) is = (

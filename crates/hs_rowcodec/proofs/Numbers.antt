@@ -79,6 +79,7 @@ sum_is b (c ∷ bytes) =
   where
     whole : suc (length bytes) - 0 ≡ suc (length bytes)
     whole = omega arith
+
     below : (i : ℕ) → suc (length bytes) - suc i ≡ length bytes - i
     below i = omega arith
 
@@ -116,6 +117,7 @@ signed_written w whole bytes small len =
   where
     none_above : number_in bytes ≡ 0 * 256 ^ length bytes + number_in bytes
     none_above = omega arith
+
     below : from_be_bytes w bytes < 2 ^ bits w
     below = subst (λ (m : ℕ). m < 2 ^ bits w) (sym (read_is w whole bytes len))
         (subst (λ (m : ℕ). number_in bytes < m) (ap (λ k. 256 ^ k) len ∙ sym whole.range) (number_small bytes small))

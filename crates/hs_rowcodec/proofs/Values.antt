@@ -33,6 +33,7 @@ text_read text rest spelled few = ap (λ n. chars_at n (text ++ rest)) len ∙ a
   where
     len : length text / 256 % 256 * 256 + length text % 256 ≡ length text
     len = omega arith
+
     at_len : chars_at (length text) (text ++ rest) ≡ Some (v.Text text, rest)
     at_len = λ i. cond (front_enough text rest i && (ap is_utf8 (take-append_seam text rest) ∙ text_passes text spelled) i) (Some (v.Text (take-append_seam text rest i), drop-append_seam text rest i)) None
 
@@ -50,8 +51,8 @@ value_read t.Big (v.Int n) rest fits writable =
 value_read (t.Decimal precision scale) (v.Dec d) rest fits writable =
     fitted (t.Decimal precision scale) (v.Dec d) rest _ fits
     (
-      fixed_read 16 (dec_in scale) (signed_bytes w128 d.units) rest (length-signed_bytes w128 d.units)
-      ∙ (λ i. Some (v.Dec (record { units = signed_read w128 whole_128 d.units (units_fit precision scale d fits) i; scale = same_scale precision scale d fits i }), rest))
+    fixed_read 16 (dec_in scale) (signed_bytes w128 d.units) rest (length-signed_bytes w128 d.units)
+    ∙ (λ i. Some (v.Dec (record { units = signed_read w128 whole_128 d.units (units_fit precision scale d fits) i; scale = same_scale precision scale d fits i }), rest))
     )
 value_read (t.Varchar most) (v.Text text) rest fits writable =
     fitted (t.Varchar most) (v.Text text) rest _ fits (text_read text rest writable.0 writable.1)
@@ -86,18 +87,16 @@ front_bytes (b ∷ bytes) (suc len) small (suc i) = front_bytes bytes len (behin
 -- a whole number at the front
 whole_found : (w : Width) → IsWhole w → (make : ℤ → Value) (bytes : List ℕ) (value : Value) (rest : List ℕ) → AreBytes bytes → fixed_at (byte_len w) (λ b. make (signed_in w b)) bytes ≡ Some (value, rest) → (n : ℤ) × (make n ≡ value) × (signed_bytes w n ++ rest ≡ bytes)
 whole_found w whole make bytes value rest small is =
-    let found = fixed_found (byte_len w) (λ b. make (signed_in w b)) bytes value rest is in
-    (
+    let found = fixed_found (byte_len w) (λ b. make (signed_in w b)) bytes value rest is in (
       signed_in w (take (byte_len w) bytes),
       found.1,
       (λ i. signed_written w whole (take (byte_len w) bytes) (front_bytes bytes (byte_len w) small) (length-take-le (byte_len w) bytes found.0) i ++ sym found.2 i)
-      ∙ take-append-drop (byte_len w) bytes
+          ∙ take-append-drop (byte_len w) bytes,
     )
 
 whole_front : (sql_type : SqlType) (w : Width) → IsWhole w → (make : ℤ → Value) → ((n : ℤ) → value_bytes sql_type (make n) ≡ 1 ∷ signed_bytes w n) → ((n : ℤ) → IsWritable (make n)) → (bytes : List ℕ) (value : Value) (rest : List ℕ) → AreBytes bytes → fixed_at (byte_len w) (λ b. make (signed_in w b)) bytes ≡ Some (value, rest) → fits_of sql_type value ≡ true → IsFront sql_type (1 ∷ bytes) value rest
 whole_front sql_type w whole make spelled plain bytes value rest small is fits =
-    let found = whole_found w whole make bytes value rest small is in
-    (
+    let found = whole_found w whole make bytes value rest small is in (
       fits,
       subst IsWritable found.1 (plain found.0),
       ap (λ v. value_bytes sql_type v ++ rest) (sym found.1) ∙ ap (λ bs. bs ++ rest) (spelled found.0) ∙ ap (λ bs. 1 ∷ bs) found.2,
@@ -131,15 +130,14 @@ chars_front most high low bytes value rest high_small low_small is fits = by_tes
     by_test true true enough text is =
         let parts = some_pair_parts _ _ _ _ is in
         let whole : length (take (high * 256 + low) bytes) ≡ high * 256 + low = length-take-le _ bytes (leb-true _ _ enough) in
-        front_is (t.Varchar most) (1 ∷ high ∷ low ∷ bytes) (v.Text (take (high * 256 + low) bytes)) value (drop (high * 256 + low) bytes) rest is
-        (
+        front_is (t.Varchar most) (1 ∷ high ∷ low ∷ bytes) (v.Text (take (high * 256 + low) bytes)) value (drop (high * 256 + low) bytes) rest is (
           ap (fits_of (t.Varchar most)) parts.0 ∙ fits,
           (IsUtf8-from_is_utf8 _ text, omega (arith, whole)),
           ap (λ bs. 1 ∷ bs)
-          (
-            ap (λ bs. (bs ++ take (high * 256 + low) bytes) ++ drop (high * 256 + low) bytes) (len_bytes high low _ high_small low_small whole)
-            ∙ ap (λ bs. high ∷ low ∷ bs) (take-append-drop (high * 256 + low) bytes)
-          ),
+              (
+              ap (λ bs. (bs ++ take (high * 256 + low) bytes) ++ drop (high * 256 + low) bytes) (len_bytes high low _ high_small low_small whole)
+              ∙ ap (λ bs. high ∷ low ∷ bs) (take-append-drop (high * 256 + low) bytes)
+              ),
         )
     by_test true false enough text is = cc
     by_test false text enough text_is is = cc

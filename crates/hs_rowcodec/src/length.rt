@@ -27,6 +27,16 @@ fn value_len(value: &Value, sql_type: &SqlType) -> usize
     }
 }
 
+/// Whether the length of each of a type's texts fits 2 bytes.
+fn is_storable(sql_type: &SqlType) -> bool
+    ensures { result ≡ is_storable sql_type.now }
+{
+    match sql_type {
+        SqlType::Varchar { max } => *max <= 16_383,
+        _ => true,
+    }
+}
+
 /// How many bytes the values of a row have.
 fn values_len(row: &[Value], types: &[SqlType]) -> usize
     requires fits { row_fits types.now row.now ≡ true }
@@ -49,4 +59,15 @@ pub fn encoded_len(row: &Row, types: &Types) -> usize
     ensures { result ≡ min (length (row_bytes types.now row.now)) usize.MAX }
 {
     values_len(row.as_slice(), types.as_slice())
+}
+
+/// Whether the lengths of the types' texts fit 2 bytes each: a VARCHAR has at most 16,383 characters, of at
+/// most 4 bytes each. Takes no memory.
+pub fn are_storable(types: &Types) -> bool
+    ensures { result ≡ are_storable types.now }
+{
+    types
+        .as_slice()
+        .iter()
+        .all(|sql_type| is_storable(sql_type))
 }

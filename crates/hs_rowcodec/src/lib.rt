@@ -4,9 +4,11 @@
 mod encoding;
 pub mod laws;
 mod length;
+#[cfg(test)]
+mod tests;
 mod value;
 mod view;
 
 pub use encoding::{encode, encode_onto};
-pub use length::encoded_len;
+pub use length::{are_storable, encoded_len};
 pub use view::RowView;

@@ -45,7 +45,10 @@ fn body<'a>(sql_type: &SqlType, bytes: &'a [u8]) -> Option<(ValueRef<'a>, &'a [u
             let (number, rest) = bytes.split_first_chunk()?;
             Some((ValueRef::Int(i64::from_be_bytes(*number)), rest))
         }
-        SqlType::Decimal { precision: _, scale } => {
+        SqlType::Decimal {
+            precision: _,
+            scale,
+        } => {
             let (number, rest) = bytes.split_first_chunk()?;
             let d = Dec {
                 units: i128::from_be_bytes(*number),

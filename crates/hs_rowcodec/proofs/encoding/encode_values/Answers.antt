@@ -10,8 +10,7 @@ encode_value-requires-clause-fits c =
 
 pub loop-i-preserved : goal.loop-i-preserved
 loop-i-preserved c =
-    let there : c.loop-i.i < length c.args.row.now = omega (arith, c.loop-i-test.true, row_is_as_long c.args.types.now c.args.row.now c.requires.fits) in
-    (
+    let there : c.loop-i.i < length c.args.row.now = omega (arith, c.loop-i-test.true, row_is_as_long c.args.types.now c.args.row.now c.requires.fits) in (
       column_written c.args.types.now c.args.row.now c.loop-i.i _ c.index-row-i.result c.loop-i.out.items _ _ c.loop-i-test.true there c.index-row-i.is c.loop-i.invariant.0 c.in_ok-encode_value.ensures.ok,
       λ others. c.loop-i.invariant.1 (columns_writable c.args.row.now c.loop-i.i c.index-row-i.result there (subst IsWritable c.index-row-i.is c.in_ok-encode_value.ensures.writable) others),
       kept_more _ c.loop-i.out.items _ c.loop-i.invariant.2 c.encode_value.ensures.kept,
