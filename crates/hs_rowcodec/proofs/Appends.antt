@@ -1,5 +1,5 @@
 -- Bytes behind bytes that are there.
-use Rattle.std.proofs.Common.{◌≡◌, ℕ, List, [], ◌++◌, cond, is_ok, OnOk, Result, Ok, Err, ap, ◌∙◌}
+use Rattle.std.proofs.Common.{◌≡◌, ℕ, List, ◌++◌, cond, is_ok, OnOk, Result, Ok, Err, ap, ◌∙◌}
 
 pub appended : {E : Type 0} (r : Result (Unit {0}) E) (old new more bytes : List ℕ) → new ≡ cond (is_ok r) (old ++ more) old → more ≡ bytes → OnOk r (new ≡ old ++ bytes)
 appended (Ok u) old new more bytes is same = is ∙ ap (λ bs. old ++ bs) same

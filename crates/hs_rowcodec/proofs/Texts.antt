@@ -1,6 +1,6 @@
 -- `IsUtf8` and its test, and how long a text of few characters is.
-use Rattle.std.proofs.Common.{◌≡◌, ℕ, ◌*◌, ◌+◌, ◌^◌, ◌<◌, ◌≤◌, Bool, true, false, nat_le, List, [], ◌∷◌, length, IsUtf8, refl, sym, ap, subst, ◌∙◌, arith, length-append}
-use Rattle.std.specs.Str.{is_utf8, chars}
+use Rattle.std.proofs.Common.{◌≡◌, ℕ, ◌*◌, ◌^◌, ◌<◌, ◌≤◌, Bool, true, false, List, [], ◌∷◌, length, IsUtf8, refl, sym, ap, subst, ◌∙◌, arith, length-append}
+use Rattle.std.specs.Str.{is_utf8}
 use Rattle.std.specs.Char.{len_utf8}
 use Rattle.std.proofs.Math.Utf8.{encodes, encode}
 use Rattle.std.proofs.lemmas.Str.{IsUtf8-from_is_utf8, is_utf8-from_IsUtf8, chars_from_encodes, length-encode}

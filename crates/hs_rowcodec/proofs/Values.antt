@@ -1,5 +1,5 @@
 -- A value at the front of bytes is the one that was written there.
-use Rattle.std.proofs.Common.{◌≡◌, ℕ, zero, suc, ◌+◌, ◌*◌, ◌/◌, ◌%◌, ◌^◌, ◌<◌, ◌≤◌, ◌==◌, ◌&&◌, nat_le, cond, Bool, true, false, List, [], ◌∷◌, ◌++◌, length, take, drop, get_or, Option, Some, None, IsUtf8, refl, sym, ap, subst, ◌∙◌, arith, ℤ, append_assoc, length-append, lit<}
+use Rattle.std.proofs.Common.{◌≡◌, ℕ, zero, suc, ◌+◌, ◌*◌, ◌/◌, ◌%◌, ◌^◌, ◌<◌, ◌≤◌, ◌==◌, ◌&&◌, nat_le, cond, Bool, true, false, List, [], ◌∷◌, ◌++◌, length, take, drop, Option, Some, None, IsUtf8, refl, sym, ap, subst, ◌∙◌, arith, ℤ, length-append, lit<}
 use Rattle.std.proofs.Math.Seq.{take-append_seam, drop-append_seam}
 use Rattle.std.proofs.lemmas.List.{take-append-drop, length-take-le}
 use Rattle.std.proofs.lemmas.Str.{IsUtf8-from_is_utf8}
@@ -9,11 +9,10 @@ use Rattle.std.specs.Str.{is_utf8}
 use Rattle.std.specs.Int.{Width, w16, w32, w64, w128, byte_len, to_be_bytes}
 use Rattle.hs_values.specs.declared.sql_type.SqlType.{SqlType}
 use Rattle.hs_values.specs.declared.sql_type.SqlType.TheVariants as t
-use Rattle.hs_values.specs.declared.value.Dec.{Dec}
 use Rattle.hs_values.specs.declared.value.Value.{Value}
 use Rattle.hs_values.specs.declared.value.Value.TheVariants as v
 use Rattle.hs_values.specs.SqlType.{fits_of}
-use Rattle.hs_rowcodec.specs.Encoding.{AreBytes, signed_bytes, body_bytes, value_bytes, IsWritable}
+use Rattle.hs_rowcodec.specs.Encoding.{AreBytes, signed_bytes, value_bytes, IsWritable}
 use Rattle.hs_rowcodec.specs.Reading.{signed_in, int_in, dec_in, day_in, micros_in, fixed_at, chars_at, text_at, truth_at, body_at, if_fits, value_at}
 use Rattle.hs_rowcodec.proofs.Numbers.{behind_first, IsWhole, signed_read, signed_written, length-signed_bytes, whole_16, whole_32, whole_64, whole_128}
 use Rattle.hs_rowcodec.proofs.Texts.{text_passes}

@@ -1,9 +1,8 @@
 -- A value of a type fits the bytes that it is written in.
-use Rattle.std.proofs.Common.{◌≡◌, ℕ, ◌^◌, ◌<◌, ◌≤◌, min, lit<, Bool, true, ◌&&◌, ℤ, pos, negsuc, arith, nat_lt}
-use Rattle.std.specs.Prelude.{int_le, unsigned_abs}
+use Rattle.std.proofs.Common.{◌≡◌, ℕ, ◌^◌, ◌<◌, ◌≤◌, min, lit<, true, ℤ, pos, negsuc, arith}
+use Rattle.std.specs.Prelude.{unsigned_abs}
 use Rattle.std.specs.Int.{w16, w32, w64, w128}
 use Rattle.std.specs.Int.RustNames.{FitsSigned}
-use Rattle.std.proofs.lemmas.Int.{fits_signed_from_abs, ints}
 use Rattle.std.proofs.Math.Nat.{pow-le-pow_right}
 use Rattle.hs_values.proofs.DecimalWidths.{narrow}
 use Rattle.hs_values.specs.declared.value.Dec.{Dec}

@@ -366,7 +366,8 @@ fn is_seen(alloc: Global, row: &Row, types: &Types, bytes: &[u8]) -> Result<bool
             return Ok(false);
         }
     }
-    Ok(view.len() == row.len() && view.to_row(alloc)? == *row)
+    let copied = view.to_row(alloc)?;
+    Ok(view.len() == row.len() && view.is_empty() == row.is_empty() && copied == *row)
 }
 
 fn check(

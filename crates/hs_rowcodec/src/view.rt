@@ -1,5 +1,5 @@
 // A row seen in its bytes.
-ghost use Rattle.std.specs.Prelude.{◌≡◌, ◌<◌, ◌≤◌, drop, Some, None, true, List, length, is_some, IsTrue, IfSome, IfNone, IfOk, slice_get, ◌↔◌};
+ghost use Rattle.std.specs.Prelude.{◌≡◌, ◌<◌, ◌≤◌, ◌==◌, drop, Some, None, true, List, length, is_some, IsTrue, IfSome, IfNone, IfOk, slice_get, ◌↔◌};
 ghost use Rattle.hs_values.specs.Order.{seen};
 ghost use Rattle.hs_rowcodec.specs.Reading.{row_of, values_in};
 
@@ -75,6 +75,9 @@ impl<'a> RowView<'a> {
     ghost use Rattle.hs_rowcodec.specs.Encoding.{Encodes};
     ghost use Rattle.hs_rowcodec.specs.View.{row_in};
 
+    /// The row of these types whose encoding is exactly these bytes, seen in them. None exactly where there is
+    /// none: where a value is missing or outside its type, a tag is neither 0 nor 1, a text is not UTF-8, or
+    /// bytes are left over. There is never more than one. Takes no memory.
     pub fn new(bytes: &'a [u8], types: &'a Types) -> Option<RowView<'a>>
         ensures none { IfNone result ((row : List Value) → ¬ (Encodes types.now row bytes.now)) }
         ensures some { IfSome result (λ view. Encodes types.now (row_in view) bytes.now) }
@@ -92,6 +95,13 @@ impl<'a> RowView<'a> {
         ensures { result ≡ length (row_in self.now) }
     {
         self.types.len()
+    }
+
+    /// Whether it has no column.
+    pub fn is_empty(&self) -> bool
+        ensures { result ≡ (length (row_in self.now) == 0) }
+    {
+        self.types.is_empty()
     }
 
     /// The field of column `i`, counted from 0, lent from the bytes. Takes no memory.

@@ -1,4 +1,4 @@
-use Rattle.std.proofs.Common.{◌≡◌, ◌<◌, true, length, sym, ap, subst, ◌∙◌, arith}
+use Rattle.std.proofs.Common.{◌<◌, length, ap, subst, ◌∙◌, arith}
 use Rattle.hs_values.specs.SqlType.{fits_of}
 use Rattle.hs_rowcodec.specs.Encoding.{IsWritable}
 use Rattle.hs_rowcodec.proofs.Columns.{row_is_as_long, value_fits, column_written, columns_writable, kept_more}

@@ -1,4 +1,4 @@
-use Rattle.std.proofs.Common.{◌≡◌, ◌<◌, ◌-◌, ◌^◌, length, refl, ap, ◌∙◌, arith}
+use Rattle.std.proofs.Common.{◌<◌, length, ap, ◌∙◌, arith}
 use Rattle.hs_values.specs.SqlType.{fits_of}
 use Rattle.hs_rowcodec.proofs.Columns.{row_is_as_long, value_fits, column_counted, counted, none_left}
 use Rattle.hs_rowcodec.proofs.length.values_len.Goals as goal
