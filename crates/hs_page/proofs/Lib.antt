@@ -1,0 +1,5 @@
+pub mod Ranges
+pub mod SlotLists
+pub mod KeptNumbers
+pub mod PageFacts
+pub mod Placed

@@ -1,0 +1,12 @@
+//! Pages of rows: a page of slots, each free or with the bytes of a row, and the rows behind them.
+#![tactic(auto)]
+
+mod numbers;
+mod page;
+mod put;
+mod read;
+
+pub use page::Page;
+
+/// The bytes of a page.
+pub const PAGE_BYTES: usize = 4096;
