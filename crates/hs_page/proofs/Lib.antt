@@ -3,3 +3,5 @@ pub mod SlotLists
 pub mod KeptNumbers
 pub mod PageFacts
 pub mod Placed
+pub mod Blank
+pub mod Packing

@@ -1,13 +1,19 @@
 -- What a write of one row into a page changes.
-use Rattle.std.specs.Prelude.{◌≡◌, ◌≢◌, ℕ, ◌+◌, ◌*◌, ◌<◌, ◌≤◌, max, List, [], length, slice_index, slice_range}
+use Rattle.std.specs.Prelude.{◌≡◌, ◌≢◌, ℕ, ◌+◌, ◌*◌, ◌<◌, ◌≤◌, max, List, [], map, length, slice_index, slice_range}
+use Rattle.std.specs.List.{range_with_len, sum_by}
+use Rattle.hs_page.specs.declared.TheConstants.{PAGE_BYTES}
 use Rattle.hs_page.specs.Pages.{IsPage, slot_count, low, offset_of, length_of, slot_bytes}
+
+-- the bytes between the slots, with this one, and the rows are enough for a row of so many
+abbrev pub HasGap : List ℕ → ℕ → ℕ → Type 0
+HasGap bytes slot len = 4 + 4 * max (slot_count bytes) (slot + 1) + len ≤ low bytes
 
 -- a row of at least one byte may be written in front of the others, into a slot that is there or the next one
 pub record MayPlace (old : List ℕ) (slot : ℕ) (row : List ℕ) : Type 0 where
   pub page : IsPage old
   pub slot_is : slot ≤ slot_count old
   pub some : 0 < length row
-  pub gap : 4 + 4 * max (slot_count old) (slot + 1) + length row ≤ low old
+  pub gap : HasGap old slot (length row)
 
 -- slot i has the same two numbers
 pub record SameNumbers (old new : List ℕ) (i : ℕ) : Type 0 where
@@ -35,3 +41,11 @@ pub record IsPacked (old new : List ℕ) (total : ℕ) : Type 0 where
   pub count : slot_count new ≡ slot_count old
   pub in_front : low new + total ≡ length new
   pub same : (i : ℕ) → slot_bytes new i ≡ slot_bytes old i
+
+-- the rows of the first i slots are packed, and the others are still free
+pub record IsPackedTo (old new : List ℕ) (i : ℕ) : Type 0 where
+  pub page : IsPage new
+  pub count : slot_count new ≡ slot_count old
+  pub in_front : low new + sum_by length (map (slot_bytes old) (range_with_len 0 i)) ≡ PAGE_BYTES
+  pub done : (k : ℕ) → k < i → slot_bytes new k ≡ slot_bytes old k
+  pub rest : (k : ℕ) → i ≤ k → slot_bytes new k ≡ []

@@ -2,7 +2,9 @@
 #![tactic(auto)]
 
 mod numbers;
+mod pack;
 mod page;
+mod place;
 mod put;
 mod read;
 

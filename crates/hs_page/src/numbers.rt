@@ -5,7 +5,8 @@ ghost use Rattle.hs_page.specs.Pages.{number_at};
 /// The number in the two bytes at `at`, the greater part first.
 pub fn number(bytes: &[u8], at: usize) -> usize
     requires { at + 1 < length bytes.now }
-    ensures { result ≡ number_at bytes.now at }
+    ensures value { result ≡ number_at bytes.now at }
+    ensures fits { result < 2 ^ 16 }
 {
     256 * usize::from(bytes[at]) + usize::from(bytes[at + 1])
 }

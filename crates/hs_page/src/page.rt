@@ -4,6 +4,7 @@ ghost use Rattle.hs_page.specs.Pages.{IsPage, slot_bytes, slot_count, slots_of, 
 
 use crate::PAGE_BYTES;
 use crate::numbers::number;
+use crate::pack::{blank, slot};
 use std::marker::Model;
 
 /// A page of `PAGE_BYTES` bytes. It has slots, numbered from 0, and each is free or has a row. Contracts see a page
@@ -32,10 +33,7 @@ impl Page {
         ensures slots { slots_of result ≡ [] }
         ensures page { IsPage result }
     {
-        let mut bytes = [0; PAGE_BYTES];
-        bytes[2] = (PAGE_BYTES / 256) as u8;
-        bytes[3] = (PAGE_BYTES % 256) as u8;
-        Page { bytes }
+        Page { bytes: blank(0) }
     }
 
     /// The bytes of the page, as they stand in a file.
@@ -57,13 +55,6 @@ impl Page {
     pub fn slot(&self, i: u16) -> &[u8]
         ensures { result.now ≡ slot_bytes self.now i }
     {
-        let i = usize::from(i);
-        if i < number(&self.bytes, 0) {
-            let at = number(&self.bytes, 4 + 4 * i);
-            let len = number(&self.bytes, 6 + 4 * i);
-            &self.bytes[at..at + len]
-        } else {
-            &[]
-        }
+        slot(&self.bytes, usize::from(i))
     }
 }

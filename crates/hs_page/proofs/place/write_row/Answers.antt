@@ -3,7 +3,7 @@ use Rattle.std.proofs.Common.{◌≡◌, ◌≢◌, ℕ, ◌+◌, ◌-◌, ◌*�
 use Rattle.hs_page.specs.Pages.{number_at, low, slot_count}
 use Rattle.hs_page.proofs.KeptNumbers.{same_number, kept_number}
 use Rattle.hs_page.proofs.Ranges.{same_range}
-use Rattle.hs_page.proofs.put.write_row.Goals as goal
+use Rattle.hs_page.proofs.place.write_row.Goals as goal
 
 pub returns : goal.returns
 returns c =
@@ -11,7 +11,7 @@ returns c =
     let slot = c.args.slot in
     let new = c.set_number-4.new.bytes in
     let long : length (c.args.head.now ++ c.args.rest.now) ≡ len = length-append c.args.head.now c.args.rest.now in
-    let at : c.number.result - len + len ≡ low c.args.bytes.now = omega (arith, c.number.ensures, c.requires.gap) in
+    let at : c.number.result - len + len ≡ low c.args.bytes.now = omega (arith, c.number.ensures.value, c.requires.gap) in
     let low_is : low new ≡ c.number.result - len =
         kept_number _ _ 0 c.set_number-4.ensures.others 2 (omega arith) (omega arith) (omega arith) ∙ c.set_number-3.ensures.number
     in
@@ -24,7 +24,7 @@ returns c =
         ∙ c.set_number-2.ensures.others k (omega arith) (omega arith) ∙ c.set_number.ensures.others k (omega arith) (omega arith)
     in
     let count_is : slot_count new ≡ c.max.result = c.set_number-4.ensures.number in
-    let count_was : c.number-count.result ≡ slot_count c.args.bytes.now = c.number-count.ensures in
+    let count_was : c.number-count.result ≡ slot_count c.args.bytes.now = c.number-count.ensures.value in
     let written : slice_range c.set_row.new.bytes (c.number.result - len) (c.number.result - len + length c.args.head.now + length c.args.rest.now) ≡ c.args.head.now ++ c.args.rest.now =
         c.set_row.ensures.row
     in

@@ -1,0 +1,9 @@
+use Rattle.std.proofs.Common.{sym, arith}
+use Rattle.hs_page.proofs.SlotLists.{first_free_is}
+use Rattle.hs_page.proofs.put.first_free.Goals as goal
+
+pub returns-then-number-eq0-clause-first : goal.returns-then-number-eq0-clause-first
+returns-then-number-eq0-clause-first c = sym (first_free_is _ _ c.requires (omega arith) c.loop-i.invariant (λ _. omega arith))
+
+pub returns-clause-first : goal.returns-clause-first
+returns-clause-first c = sym (first_free_is _ _ c.requires (omega arith) (λ k h. c.loop-i.invariant k (omega arith)) (λ h. absurd (omega arith)))
