@@ -5,3 +5,4 @@ pub mod PageFacts
 pub mod Placed
 pub mod Blank
 pub mod Packing
+pub mod Taken

@@ -1,6 +1,6 @@
 -- The steps in which the rows of a page are packed.
 use Rattle.std.proofs.Common.{◌≡◌, ◌≢◌, ℕ, ◌+◌, ◌*◌, ◌<◌, ◌≤◌, max, List, [], map, length, take, sym, subst, ◌∙◌, ap, arith, inl, inr, refl, ◌∷◌, ◌==◌, true, false, below_more}
-use Rattle.std.proofs.lemmas.Bool.{cases_lt, eqb-false}
+use Rattle.std.proofs.lemmas.Bool.{cases_lt, eqb-false, eqb-true}
 use Rattle.std.specs.List.{range_with_len, sum_by}
 use Rattle.std.proofs.lemmas.List.FromFn.{take-map-range_with_len, sum_by-map-range_with_len_more}
 use Rattle.std.proofs.lemmas.List.Sums.{sum_by-take-le}
@@ -63,4 +63,4 @@ some_bytes row h = let ne : length row ≢ 0 = eqb-false (length row) 0 h in ome
 
 pub no_bytes : (row : List ℕ) → length row == 0 ≡ true → row ≡ []
 no_bytes [] h = refl
-no_bytes (x ∷ xs) h = absurd (omega (arith, eqb-eq (length (x ∷ xs)) 0 h))
+no_bytes (x ∷ xs) h = absurd (omega (arith, eqb-true (length (x ∷ xs)) 0 h))

@@ -1,8 +1,8 @@
 -- What a write of one row into a page changes.
-use Rattle.std.specs.Prelude.{◌≡◌, ◌≢◌, ℕ, ◌+◌, ◌*◌, ◌<◌, ◌≤◌, max, List, [], map, length, slice_index, slice_range}
+use Rattle.std.specs.Prelude.{◌≡◌, ◌≢◌, ◌⊎◌, ℕ, ◌+◌, ◌*◌, ◌<◌, ◌≤◌, max, List, [], map, length, slice_index, slice_range}
 use Rattle.std.specs.List.{range_with_len, sum_by}
 use Rattle.hs_page.specs.declared.TheConstants.{PAGE_BYTES}
-use Rattle.hs_page.specs.Pages.{IsPage, slot_count, low, offset_of, length_of, slot_bytes}
+use Rattle.hs_page.specs.Pages.{IsPage, IsFree, SomeRowAt, slot_count, low, offset_of, length_of, slot_bytes}
 
 -- the bytes between the slots, with this one, and the rows are enough for a row of so many
 abbrev pub HasGap : List ℕ → ℕ → ℕ → Type 0
@@ -49,3 +49,12 @@ pub record IsPackedTo (old new : List ℕ) (i : ℕ) : Type 0 where
   pub in_front : low new + sum_by length (map (slot_bytes old) (range_with_len 0 i)) ≡ PAGE_BYTES
   pub done : (k : ℕ) → k < i → slot_bytes new k ≡ slot_bytes old k
   pub rest : (k : ℕ) → i ≤ k → slot_bytes new k ≡ []
+
+-- this slot is free, the others have the numbers that they had, and low is the least offset that is left
+pub record IsTaken (old new : List ℕ) (slot : ℕ) : Type 0 where
+  pub count : slot_count new ≡ slot_count old
+  pub free : IsFree new slot
+  pub rows : (k : ℕ) → low old ≤ k → slice_index new k ≡ slice_index old k
+  pub slots : (i : ℕ) → i ≢ slot → SameNumbers old new i
+  pub lower : (i : ℕ) → i < slot_count new → 0 < length_of new i → low new ≤ offset_of new i
+  pub least : (low new ≡ PAGE_BYTES) ⊎ SomeRowAt new (low new)

@@ -1,12 +1,14 @@
 //! Pages of rows: a page of slots, each free or with the bytes of a row, and the rows behind them.
 #![tactic(auto)]
 
+mod least;
 mod numbers;
 mod pack;
 mod page;
 mod place;
 mod put;
 mod read;
+mod take;
 
 pub use page::Page;
 
