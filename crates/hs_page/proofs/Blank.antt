@@ -12,7 +12,7 @@ pub record IsBlank (bytes : List ℕ) : Type 0 where
   pub room : 4 + 4 * slot_count bytes ≤ PAGE_BYTES
   pub zeros : (k : ℕ) → 4 ≤ k → get_or bytes k 0 ≡ 0
 
-same_everywhere : (n k z : ℕ) → get_or (replicate n z) k z ≡ z
+pub same_everywhere : {A : Type 0} (n k : ℕ) (z : A) → get_or (replicate n z) k z ≡ z
 same_everywhere n k z = elim (cases_lt k n) [ inl h ↦ get_or-replicate n k z z h | inr h ↦ get_or_past (replicate n z) k z (omega (arith, length-replicate n z, h)) ]
 
 -- zeros with a number of slots and the page's end written over them
@@ -22,7 +22,7 @@ blank_is first new count size count_is low_is room others_first others_new = rec
     size = size;
     low_is = low_is;
     room = omega (arith, count_is, room);
-    zeros = λ k h. others_new k (omega arith) (omega arith) ∙ others_first k (omega arith) (omega arith) ∙ same_everywhere PAGE_BYTES k 0
+    zeros = λ k h. others_new k (omega arith) (omega arith) ∙ others_first k (omega arith) (omega arith) ∙ same_everywhere {A = ℕ} PAGE_BYTES k 0
   }
 
 zero_number : (bytes : List ℕ) (at : ℕ) → IsBlank bytes → 4 ≤ at → number_at bytes at ≡ 0

@@ -6,3 +6,4 @@ pub mod Placed
 pub mod Blank
 pub mod Packing
 pub mod Taken
+pub mod Marking
