@@ -1,5 +1,5 @@
 -- What follows for every page.
-use Rattle.std.proofs.Common.{◌≡◌, ◌≢◌, ◌⊎◌, ℕ, ◌+◌, ◌-◌, ◌*◌, ◌<◌, ◌≤◌, Bool, List, [], length, slice_range, nat_lt, if◌then◌else◌, sym, ◌∙◌, ap, arith, inl, inr}
+use Rattle.std.proofs.Common.{◌≡◌, ◌≢◌, ◌⊎◌, ℕ, ◌+◌, ◌-◌, ◌*◌, ◌<◌, ◌≤◌, Bool, List, [], ◌∷◌, length, refl, slice_range, nat_lt, if◌then◌else◌, sym, ◌∙◌, ap, arith, inl, inr}
 use Rattle.std.proofs.lemmas.Bool.{lt-ltb, le-ltb}
 use Rattle.std.proofs.lemmas.List.Edits.{length-between}
 use Rattle.hs_page.specs.declared.TheConstants.{PAGE_BYTES}
@@ -27,3 +27,8 @@ pub length-slot_bytes : (bytes : List ℕ) (i : ℕ) → IsPage bytes → i < sl
 length-slot_bytes bytes i page h =
     let end : offset_of bytes i + length_of bytes i ≤ length bytes = omega (arith, slot_end bytes i page h, page.size) in
     ap length (slot_bytes_within bytes i h) ∙ length-between bytes (offset_of bytes i) (offset_of bytes i + length_of bytes i) end ∙ omega arith
+
+-- a list of no length has nothing
+pub empty : (row : List ℕ) → length row ≡ 0 → row ≡ []
+empty [] h = refl
+empty (x ∷ xs) h = absurd (omega (arith, h))

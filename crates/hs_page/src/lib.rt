@@ -8,9 +8,13 @@ mod page;
 mod place;
 mod put;
 mod read;
+mod row;
 mod take;
+#[cfg(test)]
+mod tests;
 
 pub use page::Page;
+pub use row::PageRow;
 
 /// The bytes of a page.
 pub const PAGE_BYTES: usize = 4096;

@@ -2,7 +2,7 @@
 ghost use Rattle.std.specs.Prelude.{◌≡◌, ℕ, ◌+◌, ◌*◌, ◌<◌, ◌≤◌, ◌^◌, ◌++◌, [], max, length};
 ghost use Rattle.std.specs.List.{sum_by};
 ghost use Rattle.std.specs.Int.{w64, to_be_bytes};
-ghost use Rattle.hs_page.specs.Pages.{IsPage, slot_count, slots_of, first_free, with_slot, row_bytes, room_of};
+ghost use Rattle.hs_page.specs.Pages.{IsPage, slot_count, slot_bytes, slots_of, first_free, with_slot, row_bytes, room_of};
 
 use crate::pack::make_gap;
 use crate::place::place;
@@ -15,6 +15,7 @@ pub fn first_free(bytes: &[u8]) -> usize
     requires { IsPage bytes.now }
     ensures first { result ≡ first_free (slots_of bytes.now) }
     ensures within { result ≤ slot_count bytes.now }
+    ensures free { slot_bytes bytes.now result ≡ [] }
 {
     let count = number(bytes, 0);
     for i in 0..count {
@@ -65,6 +66,7 @@ impl Page {
         requires some { 0 < length bytes.now }
         requires room { length bytes.now ≤ room_of (slots_of self.old) }
         ensures slot { result ≡ first_free (slots_of self.old) }
+        ensures free { slot_bytes self.old result ≡ [] }
         ensures slots { slots_of self.new ≡ with_slot (slots_of self.old) result (row_bytes table.0 row.0 bytes.now) }
         ensures page { IsPage self.new }
     {

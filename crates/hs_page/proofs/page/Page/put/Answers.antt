@@ -1,5 +1,5 @@
 use Rattle.std.proofs.Common.{◌≡◌, ℕ, ◌+◌, ◌≤◌, ◌++◌, List, length, sym, ◌∙◌, ap, arith, length-append}
-use Rattle.hs_page.specs.Pages.{slots_of, slot_count, with_slot, room_of}
+use Rattle.hs_page.specs.Pages.{slots_of, slot_count, slot_bytes, with_slot, room_of}
 use Rattle.hs_page.specs.Writes.{MayPlace}
 use Rattle.hs_page.proofs.SlotLists.{length-slots_of, put_slots, room_is}
 use Rattle.hs_page.proofs.page.Page.put.Goals as goal
@@ -27,3 +27,6 @@ returns-clause-slots c =
     put_slots c.make_gap.new.bytes c.place.new.bytes c.first_free-slot.result (c.row_head.result ++ c.args.bytes.now) (omega (arith, count, c.first_free-slot.ensures.within)) c.place.ensures.put
     ∙ ap (λ (slots : List (List ℕ)). with_slot slots c.first_free-slot.result (c.row_head.result ++ c.args.bytes.now)) (c.make_gap.ensures.same ∙ ap slots_of c.self.view_is)
     ∙ ap (λ (head : List ℕ). with_slot (slots_of c.args.self.now) c.first_free-slot.result (head ++ c.args.bytes.now)) c.row_head.ensures
+
+pub returns-clause-free : goal.returns-clause-free
+returns-clause-free c = ap (λ (bytes : List ℕ). slot_bytes bytes c.first_free-slot.result) (sym c.self.view_is) ∙ c.first_free-slot.ensures.free
