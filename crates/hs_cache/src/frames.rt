@@ -33,6 +33,18 @@ impl Model for Frames {
     ghost view = { λ f. record { pages = f.cache.entries; limit = f.cache.cap } };
 }
 
+// The number of the most recently used page that is dirty.
+fn first_dirty(cache: &LruCache<u64, Frame>) -> Option<u64>
+    ensures { result ≡ first_dirty cache.now.entries }
+{
+    for (p, frame) in cache.iter() {
+        if frame.dirty {
+            return Some(*p);
+        }
+    }
+    None
+}
+
 impl Frames {
     /// No pages, with place for `limit`.
     pub fn new(alloc: Global, limit: usize) -> Result<Frames, NoMemory>
@@ -90,12 +102,10 @@ impl Frames {
     pub fn first_dirty(&self) -> Option<PageNo>
         ensures { option_map (λ p. p.0) result ≡ first_dirty self.now.pages }
     {
-        for (p, frame) in self.cache.iter() {
-            if frame.dirty {
-                return Some(PageNo(*p));
-            }
+        match first_dirty(&self.cache) {
+            Some(p) => Some(PageNo(p)),
+            None => None,
         }
-        None
     }
 
     /// Page p, which is held, is dirty no more.

@@ -17,31 +17,31 @@ same_everywhere n k z = elim (cases_lt k n) [ inl h ↦ get_or-replicate n k z z
 
 -- zeros with a number of slots and the page's end written over them
 pub blank_is : (first new : List ℕ) (count : ℕ) → length new ≡ PAGE_BYTES → slot_count new ≡ count → low new ≡ PAGE_BYTES → 4 + 4 * count ≤ PAGE_BYTES
-  → ((k : ℕ) → k ≢ 0 → k ≢ 0 + 1 → get_or first k 0 ≡ get_or (replicate PAGE_BYTES 0) k 0) → ((k : ℕ) → k ≢ 2 → k ≢ 2 + 1 → get_or new k 0 ≡ get_or first k 0) → IsBlank new
+    → ((k : ℕ) → k ≢ 0 → k ≢ 0 + 1 → get_or first k 0 ≡ get_or (replicate PAGE_BYTES 0) k 0) → ((k : ℕ) → k ≢ 2 → k ≢ 2 + 1 → get_or new k 0 ≡ get_or first k 0) → IsBlank new
 blank_is first new count size count_is low_is room others_first others_new = record {
-    size = size;
-    low_is = low_is;
-    room = omega (arith, count_is, room);
-    zeros = λ k h. others_new k (omega arith) (omega arith) ∙ others_first k (omega arith) (omega arith) ∙ same_everywhere {A = ℕ} PAGE_BYTES k 0
-  }
+  size = size;
+  low_is = low_is;
+  room = omega (arith, count_is, room);
+  zeros = λ k h. others_new k (omega arith) (omega arith) ∙ others_first k (omega arith) (omega arith) ∙ same_everywhere {A = ℕ} PAGE_BYTES k 0;
+}
 
 zero_number : (bytes : List ℕ) (at : ℕ) → IsBlank bytes → 4 ≤ at → number_at bytes at ≡ 0
 zero_number bytes at blank h = omega (arith, blank.zeros at h, blank.zeros (at + 1) (omega arith))
 
 pub blank_page : (bytes : List ℕ) → IsBlank bytes → IsPage bytes
 blank_page bytes blank = record {
-    size = blank.size;
-    slots_end = omega (arith, blank.low_is, blank.room);
-    each = λ i h. inl (zero_number bytes (4 + 4 * i) blank (omega arith), zero_number bytes (6 + 4 * i) blank (omega arith));
-    least = inl blank.low_is;
-    apart = λ p i j hi hj in_i in_j. absurd (omega (arith, zero_number bytes (4 + 4 * i) blank (omega arith), zero_number bytes (6 + 4 * i) blank (omega arith), in_i.below))
-  }
+  size = blank.size;
+  slots_end = omega (arith, blank.low_is, blank.room);
+  each = λ i h. inl (zero_number bytes (4 + 4 * i) blank (omega arith), zero_number bytes (6 + 4 * i) blank (omega arith));
+  least = inl blank.low_is;
+  apart = λ p i j hi hj in_i in_j. absurd (omega (arith, zero_number bytes (4 + 4 * i) blank (omega arith), zero_number bytes (6 + 4 * i) blank (omega arith), in_i.below));
+}
 
 pub blank_slot : (bytes : List ℕ) → IsBlank bytes → (i : ℕ) → slot_bytes bytes i ≡ []
 blank_slot bytes blank i = elim (cases_lt i (slot_count bytes)) [
-    inl h ↦
+  | inl h ↦
       slot_bytes_within bytes i h
       ∙ ap (λ (a : ℕ). slice_range bytes a (a + length_of bytes i)) (zero_number bytes (4 + 4 * i) blank (omega arith))
       ∙ ap (λ (n : ℕ). slice_range bytes 0 (0 + n)) (zero_number bytes (6 + 4 * i) blank (omega arith))
   | inr h ↦ slot_bytes_beyond bytes i h
-  ]
+]

@@ -25,29 +25,29 @@ taken_le bytes i n h =
 module _ (old new : List ℕ) (i : ℕ) (to : IsPackedTo old new i) (within : i < slot_count old) where
   pub packed_room : bytes_taken (slot_count old) (slots_of old) ≤ PAGE_BYTES → 0 < length (slot_bytes old i) → MayPlace new i (slot_bytes old i)
   packed_room room some = record {
-      page = to.page;
-      slot_is = omega (arith, to.count, within);
-      some = some;
-      gap = omega (arith, to.count, within, to.in_front, room, taken_more old i, taken_le old (i + 1) (slot_count old) (omega arith))
-    }
+    page = to.page;
+    slot_is = omega (arith, to.count, within);
+    some = some;
+    gap = omega (arith, to.count, within, to.in_front, room, taken_more old i, taken_le old (i + 1) (slot_count old) (omega arith));
+  }
 
   pub packed_skip : slot_bytes old i ≡ [] → IsPackedTo old new (i + 1)
   packed_skip none = record {
-      page = to.page;
-      count = to.count;
-      in_front = omega (arith, to.in_front, taken_more old i, ap length none);
-      done = below_more _ _ to.done (to.rest i (omega arith) ∙ sym none);
-      rest = λ k h. to.rest k (omega arith)
-    }
+    page = to.page;
+    count = to.count;
+    in_front = omega (arith, to.in_front, taken_more old i, ap length none);
+    done = below_more _ _ to.done (to.rest i (omega arith) ∙ sym none);
+    rest = λ k h. to.rest k (omega arith);
+  }
 
   pub packed_more : (next : List ℕ) → IsPage next → low next + length (slot_bytes old i) ≡ low new → IsPut new next i (slot_bytes old i) → IsPackedTo old next (i + 1)
   packed_more next page in_front put = record {
-      page = page;
-      count = put.count ∙ omega (arith, to.count, within);
-      in_front = omega (arith, to.in_front, taken_more old i, in_front);
-      done = below_more _ _ (λ k h. put.others k (omega arith) ∙ to.done k h) put.here;
-      rest = λ k h. put.others k (omega arith) ∙ to.rest k (omega arith)
-    }
+    page = page;
+    count = put.count ∙ omega (arith, to.count, within);
+    in_front = omega (arith, to.in_front, taken_more old i, in_front);
+    done = below_more _ _ (λ k h. put.others k (omega arith) ∙ to.done k h) put.here;
+    rest = λ k h. put.others k (omega arith) ∙ to.rest k (omega arith);
+  }
 
 pub packed_end : (old new : List ℕ) (i : ℕ) → IsPackedTo old new i → slot_count old ≤ i → i ≤ slot_count old → IsPacked old new (taken old (slot_count old))
 packed_end old new i to from below =
@@ -55,7 +55,7 @@ packed_end old new i to from below =
     record {
       count = to.count;
       in_front = omega (arith, to.in_front, ap (taken old) all, to.page.size);
-      same = λ k. elim (cases_lt k i) [ inl h ↦ to.done k h | inr h ↦ to.rest k h ∙ sym (slot_bytes_beyond old k (omega (arith, h, from))) ]
+      same = λ k. elim (cases_lt k i) [ inl h ↦ to.done k h | inr h ↦ to.rest k h ∙ sym (slot_bytes_beyond old k (omega (arith, h, from))) ];
     }
 
 pub some_bytes : (row : List ℕ) → length row == 0 ≡ false → 0 < length row

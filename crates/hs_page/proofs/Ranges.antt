@@ -13,8 +13,8 @@ same_range xs ys a b in_xs in_ys same =
     let long_y : length (slice_range ys a b) ≡ b - a = length-between ys a b in_ys in
     same_number_lists _ _ (long_x ∙ sym long_y)
     (λ k h.
-        let below : a + k < b = omega (arith, long_x, h) in
-        get_or-between xs a b k 0 below ∙ same (a + k) (omega arith) below ∙ sym (get_or-between ys a b k 0 below))
+    let below : a + k < b = omega (arith, long_x, h) in
+    get_or-between xs a b k 0 below ∙ same (a + k) (omega arith) below ∙ sym (get_or-between ys a b k 0 below))
 
 -- two parts one behind another are one
 pub joined_range : (xs : List ℕ) (a m n : ℕ) → slice_range xs a (a + m + n) ≡ slice_range xs a (a + m) ++ slice_range xs (a + m) (a + m + n)

@@ -4,9 +4,9 @@ ghost use Rattle.std.specs.List.{sum_by};
 ghost use Rattle.std.specs.Int.{w64, to_be_bytes};
 ghost use Rattle.hs_page.specs.Pages.{IsPage, slot_count, slot_bytes, slots_of, first_free, with_slot, row_bytes, room_of};
 
+use crate::numbers::number;
 use crate::pack::make_gap;
 use crate::place::place;
-use crate::numbers::number;
 use crate::{PAGE_BYTES, Page};
 use hs_base::{RowNo, TableNo};
 

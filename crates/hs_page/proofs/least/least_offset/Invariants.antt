@@ -7,5 +7,5 @@ abbrev pub invariant-loop-i : goal.invariant-loop-i
 invariant-loop-i l = record {
   lower : (k : ℕ) → k < l.i → 0 < length_of l.bytes k → l.least ≤ offset_of l.bytes k;
   least : (l.least ≡ PAGE_BYTES) ⊎ SomeRowAt l.bytes l.least;
-  within : l.least ≤ PAGE_BYTES
+  within : l.least ≤ PAGE_BYTES;
 }

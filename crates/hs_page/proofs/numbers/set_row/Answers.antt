@@ -6,7 +6,7 @@ use Rattle.hs_page.proofs.numbers.set_row.Goals as goal
 pub returns-clause-row : goal.returns-clause-row
 returns-clause-row c =
     let first : slice_range c.set_bytes-2.new.bytes c.args.at (c.args.at + length c.args.head.now) ≡ c.args.head.now =
-        same_range _ _ _ _ (omega arith) (omega arith) (λ k _ below. c.set_bytes-2.ensures.others k (inl below)) ∙ c.set_bytes.ensures.part
+    same_range _ _ _ _ (omega arith) (omega arith) (λ k _ below. c.set_bytes-2.ensures.others k (inl below)) ∙ c.set_bytes.ensures.part
     in
     joined_range c.set_bytes-2.new.bytes c.args.at (length c.args.head.now) (length c.args.rest.now)
     ∙ ap (λ (l : List ℕ). l ++ slice_range c.set_bytes-2.new.bytes (c.args.at + length c.args.head.now) (c.args.at + length c.args.head.now + length c.args.rest.now)) first

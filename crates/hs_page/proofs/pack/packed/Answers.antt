@@ -13,7 +13,7 @@ place-requires c =
 
 pub loop-i-preserved : goal.loop-i-preserved
 loop-i-preserved c = elim c.if-not-is_empty.branch [
-    then-not-is_empty w ↦
+  | then-not-is_empty w ↦
       let row_is : c.slot-row.result.now ≡ slot_bytes c.args.bytes.now c.loop-i.i = c.slot-row.ensures in
       let in_front : low w.place.new.bytes + length (slot_bytes c.args.bytes.now c.loop-i.i) ≡ low c.loop-i.all = omega (arith, ap length row_is, w.place.ensures.low) in
       let put : IsPut c.loop-i.all w.place.new.bytes c.loop-i.i (slot_bytes c.args.bytes.now c.loop-i.i) = subst (λ (row : List ℕ). IsPut c.loop-i.all w.place.new.bytes c.loop-i.i row) row_is w.place.ensures.put in
@@ -21,4 +21,4 @@ loop-i-preserved c = elim c.if-not-is_empty.branch [
   | else-not-is_empty w ↦
       let none : slot_bytes c.args.bytes.now c.loop-i.i ≡ [] = no_bytes _ (sym (ap (λ (row : List ℕ). length row == 0) c.slot-row.ensures) ∙ sym c.is_empty.ensures ∙ w.if-not-is_empty.false) in
       subst (λ (all : List ℕ). IsPackedTo c.args.bytes.now all (c.loop-i.i + 1)) (sym w.all-is) (packed_skip _ _ _ c.loop-i.invariant (omega arith) none)
-  ]
+]

@@ -9,5 +9,5 @@ loop-i-preserved c =
     let long : length (slot_bytes c.args.bytes.now c.loop-i.i) ≡ c.number-total.result = length-slot_bytes c.args.bytes.now c.loop-i.i c.requires (omega arith) ∙ sym c.number-total.ensures.value in
     record {
       bound = omega (arith, c.loop-i.invariant.bound, c.number-total.ensures.fits);
-      sum = omega (arith, c.loop-i.invariant.sum, taken_more c.args.bytes.now c.loop-i.i, long)
+      sum = omega (arith, c.loop-i.invariant.sum, taken_more c.args.bytes.now c.loop-i.i, long);
     }

@@ -22,7 +22,7 @@ returns-clause-yes c = λ yes.
       place = c.args.at + some.0;
       from = omega arith;
       below = below;
-      is = sym (get_or-between c.args.marks.now c.args.at c.args.end some.0 false below) ∙ beq_true _ (some.2 false)
+      is = sym (get_or-between c.args.marks.now c.args.at c.args.end some.0 false below) ∙ beq_true _ (some.2 false);
     }
 
 pub returns-clause-no : goal.returns-clause-no

@@ -18,7 +18,7 @@ place-requires c =
       page = c.make_gap.ensures.page;
       slot_is = omega (arith, count, c.first_free-slot.ensures.within);
       some = omega (arith, long);
-      gap = omega (arith, long, c.make_gap.ensures.gap)
+      gap = omega (arith, long, c.make_gap.ensures.gap);
     }
 
 pub returns-clause-slots : goal.returns-clause-slots

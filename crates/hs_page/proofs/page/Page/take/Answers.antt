@@ -10,11 +10,11 @@ use Rattle.hs_page.proofs.page.Page.take.Goals as goal
 -- a slot with bytes is one of the page's
 there : (bytes now : List ℕ) (slot : ℕ) → bytes ≡ now → 0 < length (slot_bytes now slot) → slot < slot_count bytes
 there bytes now slot same used = elim (cases_lt slot (slot_count bytes)) [
-    inl h ↦ h
+  | inl h ↦ h
   | inr beyond ↦
       let none : length (slot_bytes now slot) ≡ 0 = sym (ap (λ (b : List ℕ). length (slot_bytes b slot)) same) ∙ ap length (slot_bytes_beyond bytes slot beyond) in
       absurd (omega (arith, none, used))
-  ]
+]
 
 freed : (old new : List ℕ) (slot given : ℕ) → given ≡ slot → IsTaken old new given → IsTaken old new slot
 freed old new slot given same taken = subst (λ (s : ℕ). IsTaken old new s) same taken
