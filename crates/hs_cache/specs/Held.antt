@@ -1,5 +1,5 @@
 -- The pages that are held, the most recently used first.
-use Rattle.std.specs.Prelude.{◌≡◌, ℕ, ◌-◌, Bool, true, false, List, [], ◌∷◌, length, take, nat_eq, find, Option, if◌then◌else◌}
+use Rattle.std.specs.Prelude.{◌≡◌, ℕ, ◌-◌, Bool, true, false, List, [], ◌∷◌, length, take, nat_eq, find, map, filter, Option, if◌then◌else◌}
 use Rattle.std.specs.Option.{option_map}
 use Rattle.std.specs.Map.{lookup}
 use Rattle.hs_cache.specs.declared.frames.Frame.{Frame}
@@ -31,3 +31,7 @@ cleaned frame = record frame { dirty = false }
 -- the first that is dirty
 abbrev pub first_dirty : Pages → Option ℕ
 first_dirty pages = option_map (λ e. e.0) (find (λ e. e.1.dirty) pages)
+
+-- all that are dirty, in order
+abbrev pub dirty_pages : Pages → List ℕ
+dirty_pages pages = map (λ e. e.0) (filter (λ e. e.1.dirty) pages)

@@ -1,9 +1,9 @@
 // Frames of pages.
-ghost use Rattle.std.specs.Prelude.{◌≡◌, ◌∷◌, [], ℕ, ◌+◌, ◌-◌, ◌<◌, ◌≤◌, ◌↔◌, IsTrue, is_some, is_none, true, false, length, take, nat_eq, Some, None, option_copied, option_map, IfOk, OnOk, OnErr};
+ghost use Rattle.std.specs.Prelude.{◌≡◌, ◌∷◌, [], ℕ, ◌+◌, ◌-◌, ◌<◌, ◌≤◌, ◌↔◌, IsTrue, is_some, is_none, true, false, length, map, take, nat_eq, Some, None, option_copied, option_map, IfOk, OnOk, OnErr};
 ghost use Rattle.std.specs.List.{IsDistinct};
 ghost use Rattle.std.specs.Map.{keys_of};
 ghost use Rattle.lru.specs.LruCache.{promoted, last_entry};
-ghost use Rattle.hs_cache.specs.Held.{frame_of, changed, with_page, cleaned, first_dirty};
+ghost use Rattle.hs_cache.specs.Held.{frame_of, changed, with_page, cleaned, first_dirty, dirty_pages};
 
 use hs_base::{NoMemory, PageNo};
 use hs_page::Page;
@@ -43,6 +43,19 @@ fn first_dirty(cache: &LruCache<u64, Frame>) -> Option<u64>
         }
     }
     None
+}
+
+// The numbers of all dirty pages, in the order of use.
+fn dirty_pages(alloc: Global, cache: &LruCache<u64, Frame>) -> Result<Vec<PageNo>, NoMemory>
+    ensures { IfOk result (λ pages. map (λ p. p.0) pages.items ≡ dirty_pages cache.now.entries) }
+{
+    let mut pages = Vec::new(alloc);
+    for (p, frame) in cache.iter() {
+        if frame.dirty {
+            pages.push(PageNo(*p))?;
+        }
+    }
+    Ok(pages)
 }
 
 impl Frames {
@@ -98,7 +111,8 @@ impl Frames {
         }
     }
 
-    /// The most recently used page that is dirty, None exactly where none is.
+    /// The most recently used page that is dirty, None exactly where none is. It looks at the pages in front of it, so
+    /// what goes over all dirty pages takes `dirty_pages`.
     pub fn first_dirty(&self) -> Option<PageNo>
         ensures { option_map (λ p. p.0) result ≡ first_dirty self.now.pages }
     {
@@ -106,6 +120,13 @@ impl Frames {
             Some(p) => Some(PageNo(p)),
             None => None,
         }
+    }
+
+    /// All dirty pages, the most recently used first, found in one pass.
+    pub fn dirty_pages(&self, alloc: Global) -> Result<Vec<PageNo>, NoMemory>
+        ensures { IfOk result (λ pages. map (λ p. p.0) pages.items ≡ dirty_pages self.now.pages) }
+    {
+        dirty_pages(alloc, &self.cache)
     }
 
     /// Page p, which is held, is dirty no more.
