@@ -1,0 +1,10 @@
+//! A generated input for measurements, and the line that sums up a run over it.
+#![tactic(auto)]
+
+mod generated;
+mod summary;
+#[cfg(test)]
+mod tests;
+
+pub use generated::text;
+pub use summary::Summary;
