@@ -267,7 +267,7 @@ rank() {
         awk -v part="$2" '{ v[NR] = $1 } END { print v[1 + int((NR - 1) * part)] }'
 }
 
-for label in $(cut -d ' ' -f 1 "$work/rounds" | sort -u); do
+while read -r label; do
     median=$(rank "$label" 0.5) least=$(rank "$label" 0)
     case $label in
         row_encode) most='wanted: at most 60' ;;
@@ -276,4 +276,4 @@ for label in $(cut -d ' ' -f 1 "$work/rounds" | sort -u); do
         *) most='no figure wanted' ;;
     esac
     printf '%-26s median %7.1f, best %7.1f ns a call (%s)\n' "$label" "$median" "$least" "$most"
-done
+done < <(cut -d ' ' -f 1 "$work/rounds" | sort -u)
