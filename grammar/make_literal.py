@@ -27,8 +27,11 @@ class Literal:
         rule = None
         for line in lines:
             line = line.strip()
-            if line.startswith('## ') or line.startswith('##'):
-                self.blocks.append(('comment', line[2:].strip() if not line.startswith('##  ') else line[2:]))
+            if line.startswith('##'):
+                self.blocks.append(('line', line[3:]))
+                continue
+            if line.startswith('#-'):
+                self.blocks.append(('remark', line[3:]))
                 continue
             if line == '' or line.startswith('#'):
                 continue
@@ -193,10 +196,17 @@ def used_names(g, literal):
     return used
 
 
+def lines_file(literal):
+    out = ['# The grammar of the statements by tokens alone, made by make_literal.py of the lines beside the rules of `literal.g`, whose',
+           '# first lines say how to read it. A word in capitals is that word, and other names are rules or classes of tokens.']
+    return '\n'.join(out + [block[1] for block in literal.blocks if block[0] == 'line']) + '\n'
+
+
 def literal_file(g, literal):
     out = ['-- The grammar of the statements as one reads it, with the steps that build their trees, made by grammar/make_literal.py from',
-           '-- grammar/literal.g. In the lines above the rules, which say the same by tokens alone, `[ ]` may be left out and `{ }` may be',
-           '-- repeated or left out; what is in them has rules of its own, behind the rule that it stands in.',
+           '-- grammar/literal.g. In the lines above the rules, which say the same by tokens alone, `[ ]` may be left out, `{ }` may be',
+           '-- repeated or left out, a symbol stands in quotes, and w(a..b) is a whole number from a to b; what is in brackets has rules of',
+           '-- its own, behind the rule that it stands in.',
            'use Rattle.std.specs.Prelude.{◌≡◌, ℕ, ◌<◌, ◌≤◌, List, [], ◌∷◌, ◌++◌, length, slice_index_or}',
            'use Rattle.hs_grammar.specs.declared.types.Item.{Item}',
            'use Rattle.hs_grammar.specs.declared.types.Item.TheVariants as item',
@@ -213,7 +223,7 @@ def literal_file(g, literal):
            'abbrev pub to : ℕ → List Part → Production', 'to n s = record { from = n; parts = s }', '',
            'abbrev pub productions : List Production', 'productions =']
     for block in literal.blocks:
-        if block[0] == 'comment':
+        if block[0] != 'rule':
             out.append('    -- ' + block[1])
         else:
             for p in literal.of[block[1]]:
@@ -501,7 +511,8 @@ def scripts_file(g, literal):
 
 
 # ---- what the rules of the literal grammar do to the table's stack, where that is more than to put one rule away: from the
-# symbols at the left to one of the ways on, each the symbols that are left then, or a state and nothing left.
+# symbols at the left to one of the ways on, each the symbols that are left then, or a state and nothing left. Steps in front, with a
+# `>` behind them, are owed: the literal grammar has written them and the table hasn't yet.
 
 def claims_of():
     claims = {}
@@ -510,34 +521,38 @@ def claims_of():
         claims.setdefault(rule, []).append((entry, list(exits)))
 
     for entry, first, tail in [('inner', 'first1', '@0'), ('in', 'in_first1', 'in_list')]:
+        subquery = '#body_subquery > ' + first
         levels = ['product_more', 'sum_more', 'compared', 'and_more', 'or_more']
         rest = [' '.join(levels[k:] + [tail]) for k in range(6)]
         for rule, k in [('primary', 0), ('unary', 0), ('product', 1), ('sum', 2), ('negation', 3), ('conjunction', 4), ('e', 5)]:
-            say(rule, entry, rest[k], first)
+            say(rule, entry, rest[k], subquery)
         for rule, k in [('intervals', 0), ('product_more', 1), ('sum_more', 2), ('compared', 3), ('and_more', 4), ('or_more', 5)]:
-            say(rule, first, rest[k], first)
+            say(rule, subquery, rest[k], subquery)
     for entry, first, tail in [('inner', 'first1', 'inner_tail'), ('in', 'in_first1', '#query ordering limiting ) #in_query')]:
-        say('core', entry, 'term_more body_more ' + tail, first)
-        say('term', entry, 'body_more ' + tail, first)
-        say('body', entry, tail, first)
-        say('term_more', first, 'body_more ' + tail, first)
-        say('body_more', first, tail, first)
-    for first in ['inner_tail', 'first1']:
-        say('ordered', first, '@2')
-    say('ordered', 'plain_tuples', '')
-    say('query', 'in', ') #in_query', 'in_first1')
-    say('ordering', 'in_first1', 'limiting ) #in_query', 'in_first1')
-    say('limiting', 'in_first1', ') #in_query', 'in_first1')
-    say('es', 'in', ') #in_list', 'in_first1')
-    say('es_more', 'in_first1', ') #in_list', 'in_first1')
+        body = '#bracket_body > ' + first
+        say('core', entry, 'term_more body_more ' + tail, body)
+        say('term', entry, 'body_more ' + tail, body)
+        say('body', entry, tail, body)
+        say('term_more', body, 'body_more ' + tail, body)
+        say('body_more', body, tail, body)
+    say('ordered', '#query > inner_tail', '@2')
+    say('ordered', '#bracket_body #query > first1', '@2')
+    say('ordered', '#tuples_body #query > plain_tuples', '#insert_query')
+    query = '#bracket_body #query > in_first1'
+    say('query', 'in', ') #in_query', query)
+    say('ordering', query, 'limiting ) #in_query', query)
+    say('limiting', query, ') #in_query', query)
+    listed = '#body_subquery #first > in_first1'
+    say('es', 'in', ') #in_list', listed)
+    say('es_more', listed, ') #in_list', listed)
     for entry in ['source', 'values_or_query']:
         say('contents', entry, '')
-        say('inserted_query', entry, '')
-    say('tuples', 'plain_tuple', '')
+        say('inserted_query', entry, '#insert_query')
+    say('tuples', 'plain_tuple', 'plain_tuples', 'mixed_tuples')
     say('tuple', 'plain_tuple', 'plain_tuples', 'mixed_tuples')
     say('tuple', '( #tuple mixed_value mixed_more', 'mixed_tuples')
-    say('tuples_more', 'plain_tuples', '')
-    say('tuples_more', 'mixed_tuples', '')
+    say('tuples_more', 'plain_tuples', 'plain_tuples', 'mixed_tuples')
+    say('tuples_more', 'mixed_tuples', 'mixed_tuples')
     say('tuple_value', 'plain_value', 'plain_more', 'mixed_more')
     say('tuple_value', 'mixed_value', '')
     say('values_more', 'plain_more', 'plain_more', 'mixed_more')
@@ -546,84 +561,97 @@ def claims_of():
     say('row_of_values', 'plain_tuple', 'plain_tuples')
     say('rows_of_values_more', 'plain_tuples', 'plain_tuples')
     say('row_of_values_more', 'plain_more', 'plain_more')
-    say('behind_rows', 'plain_tuples', '')
+    say('behind_rows', '#tuples_body > plain_tuples', '#insert_query')
     say('table_definition', 'name #memory elements', '')
     return claims
 
 
+# The two spots at which the literal grammar reads some tokens twice, and what they are meant as, as in specs/Meant.antt.
+SPOTS = [('#body_subquery ) #bracket', '#bracket_body ) #body_subquery'),
+         ('#body_subquery #first ) #in_list', '#bracket_body #query ) #in_query')]
+
+
 class Runs:
-    """Looks for runs that show that the table's grammar derives what a literal production writes."""
+    """Looks for runs that show that the table's grammar derives what a literal production writes, steps included."""
 
     def __init__(self, g, literal):
         self.g = g
         self.literal = literal
-        self.names = list(g.rules)
         self.of = {}
         for p, (rule, symbols) in enumerate(g.productions):
             if p:
                 self.of.setdefault(g.rule_number[rule], []).append((p, tuple(symbols)))
+        self.spots = [tuple(self.symbols(text) for text in spot) for spot in SPOTS]
         self.claims = {}
         for name in literal.order:
             found = []
             if name in g.rules:
-                found.append((((('Rule', g.rule_number[name]),)), [((), None)]))
+                found.append(((), (('Rule', g.rule_number[name]),), [((), (), None)]))
             for entry, exits in claims_of().get(name, []):
-                found.append((self.symbols(entry), [self.exit_of(x) for x in exits]))
+                owed, symbols = self.owed(entry)
+                found.append((owed, symbols, [self.exit_of(x) for x in exits]))
             self.claims[name] = found
 
     def symbols(self, text):
         return tuple(self.g.symbol(word) for word in text.split())
 
-    def exit_of(self, text):
-        return self.settled(self.symbols(text), None)
+    def owed(self, text):
+        front, mark, rest = text.rpartition('>')
+        return self.symbols(front), self.symbols(rest)
 
-    def settled(self, stack, state):
+    def exit_of(self, text):
+        owed, symbols = self.owed(text)
+        if symbols and symbols[0][0] == 'Keep':
+            return owed, symbols[1:], symbols[0][1]
+        return owed, symbols, None
+
+    def settled(self, owed, stack, state):
+        """Where the table has written what it can of what is owed."""
         while stack:
             kind = stack[0][0]
-            if kind == 'Mark':
-                stack = stack[1:]
-            elif kind == 'Keep':
+            if kind == 'Keep':
                 state = stack[0][1]
                 stack = stack[1:]
             elif kind == 'Turn' and state is not None:
-                return (('Rule', stack[0][1] + min(state, 2)),) + stack[1:], state
+                return owed, (('Rule', stack[0][1] + min(state, 2)),) + stack[1:], state
+            elif kind in ('Mark', 'Take') and owed and owed[0] == stack[0]:
+                owed = owed[1:]
+                stack = stack[1:]
             else:
                 break
-        return stack, state
+        return owed, stack, state
 
-    def find(self, exits, parts, stack, state):
+    def find(self, exits, parts, at):
         for depth in range(0, 12):
-            found = self.run(exits, parts, stack, state, depth, depth)
+            found = self.run(exits, parts, at, depth, depth)
             if found is not None:
                 return found
         return None
 
-    def run(self, exits, parts, stack, state, depth, most):
+    def run(self, exits, parts, at, depth, most):
+        owed, stack, state = at
+        if parts and parts[0][0] in ('word', 'mark'):
+            item = ('Take' if parts[0][0] == 'word' else 'Mark', parts[0][1])
+            found = self.run(exits, parts[1:], self.settled(owed + (item,), stack, state), most, most)
+            return None if found is None else ('take', found)
         if not parts:
-            for k, (left, known) in enumerate(exits):
-                if left == stack and (known is None or known == state):
+            for k, (owes, left, known) in enumerate(exits):
+                if (owes, left) == (owed, stack) and (known is None or known == state):
                     return ('finish', k)
-        elif parts[0][0] == 'word':
-            if stack and stack[0] == ('Take', parts[0][1]):
-                new, now = self.settled(stack[1:], state)
-                found = self.run(exits, parts[1:], new, now, most, most)
-                return None if found is None else ('take', found)
         elif parts[0][0] == 'span':
-            if stack and stack[0][0] == 'TakeKeep' and stack[0][1] <= parts[0][1] and parts[0][2] <= stack[0][2]:
-                new, now = self.settled(stack[1:], None)
-                found = self.run(exits, parts[1:], new, now, most, most)
+            if not owed and stack and stack[0][0] == 'TakeKeep' and stack[0][1] <= parts[0][1] and parts[0][2] <= stack[0][2]:
+                found = self.run(exits, parts[1:], self.settled((), stack[1:], None), most, most)
                 return None if found is None else ('take', found)
         elif parts[0][0] == 'scaled':
             return None
         else:
-            for k, (entry, ways) in enumerate(self.claims[parts[0][1]]):
-                if stack[:len(entry)] != entry:
+            for k, (owes, entry, ways) in enumerate(self.claims[parts[0][1]]):
+                if owes != owed or stack[:len(entry)] != entry:
                     continue
                 rest = stack[len(entry):]
                 branches = []
-                for left, known in ways:
-                    new, now = self.settled(left + rest, known)
-                    branch = self.run(exits, parts[1:], new, now, most, most)
+                for left_owed, left, known in ways:
+                    branch = self.run(exits, parts[1:], self.settled(left_owed, left + rest, known), most, most)
                     if branch is None:
                         break
                     branches.append(branch)
@@ -632,31 +660,34 @@ class Runs:
                     for branch in reversed(branches):
                         tree = ('both', branch, tree)
                     return ('claimed', k, tree)
+        for k, (read, meant) in enumerate(self.spots):
+            if owed == read:
+                found = self.run(exits, parts, self.settled(meant, stack, state), depth, most)
+                if found is not None:
+                    return ('turn', k, found)
         if depth == 0 or not stack or stack[0][0] != 'Rule':
             return None
         for p, right in self.of[stack[0][1]]:
-            if parts and parts[0][0] == 'word' and p not in self.g.rows[stack[0][1]]:
+            if owed and owed[0][0] == 'Take' and p not in self.g.rows[stack[0][1]]:
                 continue
-            new, now = self.settled(right + stack[1:], state)
-            if new and new[0][0] == 'Take' and not (parts and (parts[0][0] == 'rule' or parts[0] == ('word', new[0][1]))):
+            new = self.settled(owed, right + stack[1:], state)
+            if new[1] and (new[1][0][0] == 'Refuse' or new[0] and new[1][0][0] in ('Take', 'Mark', 'TakeKeep') and new[0] not in [r for r, _ in self.spots]):
                 continue
-            if new and new[0][0] == 'Refuse':
-                continue
-            found = self.run(exits, parts, new, now, depth - 1, most)
+            found = self.run(exits, parts, new, depth - 1, most)
             if found is not None:
                 return ('by', p, found)
         return None
 
 
-def refusing(search, stack, state, first, last, depth):
+def refusing(search, at, first, last, depth):
     """The productions by which a refused word of these classes comes first."""
-    if stack and stack[0][0] == 'Refuse':
+    owed, stack, state = at
+    if stack and not owed and stack[0][0] == 'Refuse':
         return ('finish', 0) if stack[0][1] <= first and last <= stack[0][2] else None
     if depth == 0 or not stack or stack[0][0] != 'Rule':
         return None
     for p, right in search.of[stack[0][1]]:
-        new, now = search.settled(right + stack[1:], state)
-        found = refusing(search, new, now, first, last, depth - 1)
+        found = refusing(search, search.settled(owed, right + stack[1:], state), first, last, depth - 1)
         if found is not None:
             return ('by', p, found)
     return None
@@ -666,6 +697,19 @@ def antt_symbols(symbols):
     return '(' + ' ∷ '.join([f'S.{x[0]} ' + ' '.join(str(k) for k in x[1:]) for x in symbols] + ['[]']) + ')'
 
 
+def antt_marks(owed):
+    assert all(x[0] == 'Mark' for x in owed)
+    return '(' + ' ∷ '.join([str(x[1]) for x in owed] + ['[]']) + ')'
+
+
+def antt_exit(way):
+    owed, left, known = way
+    if known is not None:
+        assert not owed and not left
+        return f'to_state {known}'
+    return f'owing {antt_marks(owed)} {antt_symbols(left)}' if owed else f'to_any {antt_symbols(left)}'
+
+
 def antt_run(tree):
     if tree[0] == 'finish':
         return f'finish {tree[1]}'
@@ -673,8 +717,8 @@ def antt_run(tree):
         return f'by {tree[1]} ({antt_run(tree[2])})'
     if tree[0] == 'take':
         return f'take ({antt_run(tree[1])})'
-    if tree[0] == 'claimed':
-        return f'claimed {tree[1]} ({antt_run(tree[2])})'
+    if tree[0] in ('claimed', 'turn'):
+        return f'{tree[0]} {tree[1]} ({antt_run(tree[2])})'
     if tree[0] == 'both':
         return f'both ({antt_run(tree[1])}) ({antt_run(tree[2])})'
     return 'no'
@@ -686,23 +730,21 @@ def runs_file(g, literal):
     out = ['-- How the table derives what each production of the literal grammar writes, made by grammar/make_literal.py.',
            'use Rattle.std.specs.Prelude.{List, [], ◌∷◌}',
            'use Rattle.hs_grammar.specs.declared.types.Symbol.TheVariants as S',
-           'use Rattle.hs_syntax.proofs.Runs.{to_any, to_state, Claim, claim, Run, finish, by, take, claimed, both, no}', '',
-           '-- by rule, from which symbols of the table it leads where', 'abbrev pub claims : List (List Claim)', 'claims =']
+           'use Rattle.hs_syntax.proofs.Runs.{to_any, owing, to_state, Claim, claim, Run, finish, by, take, turn, claimed, both, no}', '',
+           '-- by rule, from which steps that are owed and which symbols of the table it leads where', 'abbrev pub claims : List (List Claim)', 'claims =']
     numbers = {n: name for name, n in literal.number.items()}
     for n in range(len(numbers)):
         found = search.claims.get(numbers[n], [])
         lines = []
-        for entry, exits in found:
-            assert all(known is None or left == () for left, known in exits)
-            ways = [f'to_any {antt_symbols(left)}' if known is None else f'to_state {known}' for left, known in exits]
-            lines.append(f'claim {antt_symbols(entry)} (' + ' ∷ '.join(ways + ['[]']) + ')')
+        for owed, entry, exits in found:
+            ways = [f'claim {antt_marks(owed)} {antt_symbols(entry)} (' + ' ∷ '.join([antt_exit(x) for x in exits] + ['[]']) + ')']
+            lines += ways
         out.append('    (' + ' ∷ '.join(lines + ['[]']) + ') ∷')
     out += ['    []', '', '-- by production, a run for each claim of its rule', 'abbrev pub all_runs : List (List Run)', 'all_runs =']
     for p, (name, parts) in enumerate(literal.productions):
         trees = []
-        for entry, exits in search.claims[name]:
-            new, now = search.settled(entry, None)
-            tree = search.find(exits, [part for part in parts if part[0] != 'mark'], new, now)
+        for owed, entry, exits in search.claims[name]:
+            tree = search.find(exits, parts, search.settled(owed, entry, None))
             if tree is None:
                 left_out.append((p, name, parts, entry))
                 tree = ('no',)
@@ -711,7 +753,7 @@ def runs_file(g, literal):
     out += ['    []', '', '-- by word that is not offered, how each claim of its rule comes to it', 'abbrev pub refusal_runs : List (List Run)',
             'refusal_runs =']
     for name, first, last in literal.refusals:
-        trees = [refusing(search, *search.settled(entry, None), first, last, 3) for entry, _ in search.claims[name]]
+        trees = [refusing(search, search.settled(owed, entry, None), first, last, 3) for owed, entry, _ in search.claims[name]]
         assert None not in trees, name
         out.append('    (' + ' ∷ '.join([antt_run(tree) for tree in trees] + ['[]']) + ') ∷')
     out += ['    []']
@@ -728,6 +770,7 @@ def main():
              'hs_syntax/proofs/Scripts.antt': scripts, 'hs_parser/specs/Marks.antt': marks_file(g)}
     runs, left_out = runs_file(g, literal)
     files['hs_syntax/proofs/LiteralRuns.antt'] = runs
+    files[os.path.join(HERE, 'literal.ebnf')] = lines_file(literal)
     print(f'{len(literal.productions)} literal productions; without a script: {", ".join(name for _, name, _ in by_hand)}; '
           f'without a run: {", ".join(x[1] for x in left_out)}')
     def bare(text):

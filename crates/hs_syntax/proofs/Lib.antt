@@ -4,6 +4,7 @@ pub mod DerivedTo
 pub mod Digits
 pub mod Letters
 pub mod LiteralRuns
+pub mod Meant
 pub mod Rewriting
 pub mod Runs
 pub mod RunsTo

@@ -2,6 +2,7 @@ pub mod Classes
 pub mod Letters
 pub mod Literal
 pub mod Marks
+pub mod Meant
 pub mod Names
 pub mod Rows
 pub mod Sql

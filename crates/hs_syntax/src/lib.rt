@@ -8,9 +8,11 @@
 #![tactic(auto)]
 
 mod class;
+mod laws;
 mod syntax;
 mod table;
 mod words;
 
 pub use class::classes;
+pub use laws::law_of_one_reading;
 pub use syntax::recognised;
