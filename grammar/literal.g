@@ -3,8 +3,8 @@
 # below them, by tokens alone: `[ ]` may be left out, `{ }` may be repeated or left out, `|` parts alternatives, `( )` groups,
 # a symbol stands in quotes, and w(a..b) is a whole number from a to b. What is in brackets has rules of its own here, each behind
 # the rule that it stands in. The other forms are as in `sql.g`, which lists the steps; <a..b> is a token of a class from a to b,
-# <p,s> are three, a precision, a comma and a scale that is not above it, the two read as numbers, and !a or !a..b is a token that
-# stands there but isn't offered. Lines that begin with `#-` are remarks for the reader of Literal.antt.
+# <p,s> are three, a precision, a comma and a scale that is not above it, the two read as numbers, and !a, !a..b or !a.. is a
+# token that stands there but isn't offered. Lines that begin with `#-` are remarks for the reader of Literal.antt.
 
 ## start = statement [ ';' ]
 start : statement semicolon
@@ -183,7 +183,7 @@ control : LOCKS #control_locks | !MVLOCKS | !MVCC
 default_level : READ default_committed | SERIALIZABLE #default_serializable
 default_committed : COMMITTED #default_read_committed | !UNCOMMITTED
 truth : TRUE #autocommit_true | FALSE #autocommit_false
-write_delay : FALSE #write_delay_false | !0..UNCOMMITTED
+write_delay : FALSE #write_delay_false | !0..
 
 ## e = conjunction { OR conjunction }
 e : conjunction or_more

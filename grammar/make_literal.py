@@ -9,7 +9,9 @@ import re
 import sys
 
 from make_table import CRATES, Grammar, HERE, MARK_KINDS, SYMBOL_NAMES
+from numbering import PATH
 
+ALONE = 256  # the number of the first rule that the table hasn't
 RESERVED = {'where', 'as', 'in', 'data', 'use', 'open', 'do', 'let', 'mod'}
 MARK_ALIASES = {'LeafMark': 'leaf', 'ExpressionMark': 'e', 'FunctionMark': 'f', 'QueryMark': 'q', 'ChangeMark': 'c',
                 'DefinitionMark': 'd', 'SessionMark': 's'}
@@ -48,9 +50,8 @@ class Literal:
                 else:
                     alternatives[-1].append(word)
         self.number = dict(g.rule_number)
-        for name in self.order:
-            if name not in self.number:
-                self.number[name] = len(self.number)
+        alone = g.numbers.ordered('rules of the literal grammar alone', [name for name in self.order if name not in g.rules])
+        self.number.update({name: ALONE + k for k, name in enumerate(alone)})
         self.productions = []
         self.refusals = []
         self.of = {}
@@ -125,16 +126,19 @@ def names_file(g, literal):
     return '\n'.join(out) + '\n'
 
 
-def words_file(g):
+def words_file(g, literal):
     words = sorted(c for c in g.classes[1:] if re.fullmatch(r'[A-Z_]+', c))
     signs = [c for c in g.classes[1:] if c in SYMBOL_NAMES]
-    names = [quoted(name_of(c)) for c in words + signs]
+    may_be = [g.classes[parts[0][1]] for parts in (literal.productions[p][1] for p in literal.of['name'])]
+    names = [quoted(name_of(c)) for c in words + signs] + ['identifier']
     out = ['-- The words and the symbols as they are spelled, words in capitals, with their classes, made by grammar/make_literal.py.',
            'use Rattle.std.specs.Prelude.{ℕ, List, [], ◌∷◌, codes}',
            'use Rattle.hs_syntax.specs.Names.{' + ', '.join(names) + '}']
     for name, spelled in (('words', words), ('signs', signs)):
         out += ['', f'abbrev pub {name} : List (List ℕ × ℕ)', f'{name} =']
         out += [f'    (codes "{c}", {quoted(name_of(c))}) ∷' for c in spelled] + ['    []']
+    out += ['', '-- the classes of the words that may be names, and that of the words that are none of the grammar\'s', 'abbrev pub name_classes : List ℕ',
+            'name_classes = ' + ' ∷ '.join([quoted(name_of(c)) for c in may_be] + ['[]'])]
     return '\n'.join(out) + '\n'
 
 
@@ -295,6 +299,25 @@ OTHERS = {
 }
 
 
+def by_number(literal):
+    """The rules in the order of their numbers, each in a list of its own, and lists of None for numbers that no rule has."""
+    names = {n: name for name, n in literal.number.items()}
+    table = [n for n in names if n < ALONE]
+    gap = [None] * (ALONE - len(table))
+    rows = [gap[k:k + 20] for k in range(0, len(gap), 20)]
+    if len(rows[-1]) == 1:
+        rows[-2:] = [rows[-2] + rows[-1]]
+    return [[names[n]] for n in sorted(table)] + rows + [[names[n]] for n in sorted(names) if n >= ALONE]
+
+
+def firsts_file(literal):
+    out = ['-- By rule of the literal grammar, the place of its first production, made by grammar/make_literal.py.',
+           'use Rattle.std.specs.Prelude.{ℕ, List, [], ◌∷◌}', '', 'abbrev pub firsts : List ℕ', 'firsts =']
+    places = [literal.of.get(name, [0])[0] if name else 0 for names in by_number(literal) for name in names]
+    out += ['    ' + ''.join(f'{n} ∷ ' for n in places[k:k + 20]) for k in range(0, len(places), 20)]
+    return '\n'.join(out + ['    []']) + '\n'
+
+
 class Search:
     """Looks for scripts that show that what a production derives is written by the literal grammar."""
 
@@ -313,7 +336,7 @@ class Search:
         return tuple(self.literal.part(word) for word in text.split())
 
     def steps(self, parts, wanted):
-        """Steps from the parts to those that are wanted, as places and productions."""
+        """Steps from the parts to those that are wanted, as places and alternatives of the rules there."""
         for depth in range(0, 26):
             found = self.search(list(parts), list(wanted), 0, depth)
             if found is not None:
@@ -333,14 +356,14 @@ class Search:
                 return found
         if parts[at][0] != 'rule' or depth == 0:
             return None
-        for p in self.literal.of[parts[at][1]]:
+        for k, p in enumerate(self.literal.of[parts[at][1]]):
             right = list(self.literal.productions[p][1])
             new = parts[:at] + right + parts[at + 1:]
             if right and right[0][0] != 'rule' and (at >= len(wanted) or right[0] != wanted[at]):
                 continue
             found = self.search(new, wanted, at, depth - 1)
             if found is not None:
-                return [(at, p)] + found
+                return [(at, k)] + found
         return None
 
     def completed(self, parts, front, at, depth):
@@ -357,13 +380,13 @@ class Search:
                 return found
         if parts[at][0] != 'rule' or depth == 0:
             return None
-        for p in self.literal.of[parts[at][1]]:
+        for k, p in enumerate(self.literal.of[parts[at][1]]):
             right = list(self.literal.productions[p][1])
             if right and right[0][0] != 'rule' and right[0] != front[at]:
                 continue
             found = self.completed(parts[:at] + right + parts[at + 1:], front, at, depth - 1)
             if found is not None:
-                return [(at, p)] + found[0], found[1]
+                return [(at, k)] + found[0], found[1]
         return None
 
     def completion(self, rule):
@@ -447,7 +470,7 @@ def plain_parts(parts, literal):
 
 
 def antt_steps(steps):
-    return '(' + ' ∷ '.join([f'step {at} {p}' for at, p in steps] + ['[]']) + ')'
+    return '(' + ' ∷ '.join([f'step {at} {k}' for at, k in steps] + ['[]']) + ')'
 
 
 def antt_script(tree, literal):
@@ -460,10 +483,9 @@ def antt_script(tree, literal):
     return 'no'
 
 
-def written(g, p, name):
+def written(g, p):
     """A production of the table as it is written in `sql.g`."""
-    first = next(k for k, (rule, _) in enumerate(g.productions) if rule == name)
-    return f'  {name} : ' + ' '.join(g.rules[name][p - first])
+    return '  ' + g.texts[p]
 
 
 def scripts_file(g, literal):
@@ -497,11 +519,11 @@ def scripts_file(g, literal):
     refused = [0] + [search.refused_as(name, symbols) for name, symbols in g.productions[1:]]
     out += ['    []', '', '-- by production that refuses a word, which of the literal ones that is', 'abbrev pub refused_as : List ℕ',
             'refused_as = ' + ' ∷ '.join([str(k) for k in refused] + ['[]'])]
+    by_hand.sort(key=lambda x: (x[1], all(s[0] == 'Mark' for s in x[2])))
+    if [name for _, name, _ in by_hand] != ['decimal', 'scale', 'scale']:
+        raise SystemExit('\n'.join(['only decimal and scale may be without a script, but these are:'] + [written(g, p) for p, _, _ in by_hand]))
     out += ['', '-- the productions that are read by hand', 'abbrev pub by_hand : List ℕ',
             'by_hand = ' + ' ∷ '.join([str(p) for p, _, _ in by_hand] + ['[]'])]
-    if [name for _, name, _ in by_hand] != ['decimal', 'scale', 'scale']:
-        raise SystemExit('\n'.join(['only decimal and scale may be without a script, but these are:'] + [written(g, p, name) for p, name, _ in by_hand]))
-    assert by_hand[2][2] == [s for s in by_hand[2][2] if s[0] == 'Mark']
     for name, (p, _, _) in zip(['in_parentheses', 'some_scale', 'no_scale'], by_hand):
         out += [f'abbrev pub {name} : ℕ', f'{name} = {p}']
     alone, with_scale, _ = literal.of['decimal']
@@ -732,9 +754,11 @@ def runs_file(g, literal):
            'use Rattle.hs_grammar.specs.declared.types.Symbol.TheVariants as S',
            'use Rattle.hs_syntax.proofs.Runs.{to_any, owing, to_state, Claim, claim, Run, finish, by, take, turn, claimed, both, no}', '',
            '-- by rule, from which steps that are owed and which symbols of the table it leads where', 'abbrev pub claims : List (List Claim)', 'claims =']
-    numbers = {n: name for name, n in literal.number.items()}
-    for n in range(len(numbers)):
-        found = search.claims.get(numbers[n], [])
+    for names in by_number(literal):
+        if len(names) != 1:
+            out.append('    ' + '[] ∷ ' * len(names))
+            continue
+        found = search.claims.get(names[0], [])
         lines = []
         for owed, entry, exits in found:
             ways = [f'claim {antt_marks(owed)} {antt_symbols(entry)} (' + ' ∷ '.join([antt_exit(x) for x in exits] + ['[]']) + ')']
@@ -765,9 +789,9 @@ def main():
     g.work_out()
     literal = Literal(g, open(os.path.join(HERE, 'literal.g')).read())
     scripts, by_hand = scripts_file(g, literal)
-    files = {'hs_syntax/specs/Names.antt': names_file(g, literal), 'hs_syntax/specs/Words.antt': words_file(g),
+    files = {'hs_syntax/specs/Names.antt': names_file(g, literal), 'hs_syntax/specs/Words.antt': words_file(g, literal),
              'hs_syntax/specs/Marks.antt': mark_names_file(g), 'hs_syntax/specs/Literal.antt': literal_file(g, literal),
-             'hs_syntax/proofs/Scripts.antt': scripts, 'hs_parser/specs/Marks.antt': marks_file(g)}
+             'hs_syntax/proofs/Firsts.antt': firsts_file(literal), 'hs_syntax/proofs/Scripts.antt': scripts, PATH: g.numbers.text(), 'hs_parser/specs/Marks.antt': marks_file(g)}
     runs, left_out = runs_file(g, literal)
     files['hs_syntax/proofs/LiteralRuns.antt'] = runs
     files[os.path.join(HERE, 'literal.ebnf')] = lines_file(literal)

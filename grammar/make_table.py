@@ -13,9 +13,12 @@ import os
 import re
 import sys
 
+from numbering import PATH, Numbers
+
 HERE = os.path.dirname(os.path.abspath(__file__))
 CRATES = os.environ.get('OUT') or os.path.join(HERE, '..', 'crates')
 COLUMNS = 256
+VIEWED = COLUMNS - 2  # the column of the first view; the others stand before it
 STATES = 3
 MARK_KINDS = {'ChangeMark', 'DefinitionMark', 'ExpressionMark', 'FunctionMark', 'LeafMark', 'QueryMark', 'SessionMark'}
 SYMBOL_NAMES = {
@@ -32,18 +35,19 @@ class Grammar:
         self.named = {}
         self.rules = {}
         self.read(text)
+        self.numbers = Numbers()
         self.number = {name: k for k, name in enumerate(self.classes)}
+        self.rules = {name: self.rules[name] for name in self.numbers.ordered('rules of the table', self.rules)}
         self.rule_number = {name: k for k, name in enumerate(self.rules)}
-        self.marks = []
-        self.productions = [(None, [])]
-        for rule, alternatives in self.rules.items():
-            for words in alternatives:
-                self.productions.append((rule, [self.symbol(word) for word in words]))
-        first = len(self.classes)
+        written = {f'{rule} : {" ".join(words)}'.strip(): (rule, words) for rule, alternatives in self.rules.items() for words in alternatives}
+        used = {word for _, words in written.values() for word in words if word in self.named and word not in self.number}
+        self.marks = self.numbers.ordered('steps', [word for word in self.named if word in used])
+        self.texts = [None] + self.numbers.ordered('productions of the table', written)
+        self.productions = [(None, [])] + [(written[text][0], [self.symbol(word) for word in written[text][1]]) for text in self.texts[1:]]
         self.seen = {}
         for k, (name, before) in enumerate(self.views):
-            self.seen[self.number[name]] = (self.number[before], first + k)
-        self.column_count = first + len(self.views)
+            self.seen[self.number[name]] = (self.number[before], VIEWED - k)
+        self.column_count = len(self.classes) + len(self.views)
         assert self.column_count < COLUMNS
         assert len(self.rules) <= 256 and len(self.marks) <= 256
 
@@ -79,8 +83,8 @@ class Grammar:
                         self.rules[rule][-1].append(word)
 
     def ends_of(self, text):
-        names = text.split('..')
-        return self.number[names[0]], self.number[names[-1]]
+        first, _, last = text.partition('..')
+        return self.number[first], self.number[last or (first if '..' not in text else self.classes[-1])]
 
     def symbol(self, word):
         if word in self.number:
@@ -88,14 +92,15 @@ class Grammar:
         if word in self.rules:
             return 'Rule', self.rule_number[word]
         if word.startswith('#'):
-            assert word in self.named, word
-            if word not in self.marks:
-                self.marks.append(word)
+            assert word in self.marks, word
             return 'Mark', self.marks.index(word)
         if word.startswith('@'):
             return 'Keep', int(word[1:])
         if word.startswith('?'):
-            return 'Turn', self.rule_number[word[1:]]
+            first = self.rule_number[word[1:]]
+            if [self.rule_number.get(f'{word[1:-1]}{k}') for k in range(STATES)] != [first + k for k in range(STATES)]:
+                raise SystemExit(f'{word[1:]} and the two rules of the other states must stand one behind another in numbers.txt')
+            return 'Turn', first
         if word.startswith('<=') and word.endswith('>'):
             return ('TakeUpTo', *self.ends_of(word[2:-1]))
         if word.startswith('<') and word.endswith('>'):
@@ -356,6 +361,10 @@ def words_file(g):
     out += [f'    (b"{c}", {g.number[c]}),' for c in sorted(words)]
     out.append('];')
     out.append('')
+    may_be = [symbols[0][1] for rule, symbols in g.productions if rule == 'name']
+    out.append('/// The classes of the words that may be names, and IDENTIFIER.')
+    out.append(f'pub const NAMES: [u8; {len(may_be)}] = [' + ', '.join(str(n) for n in may_be) + '];')
+    out.append('')
     out.append('/// By letter, A being 1, the place in WORDS of the first word with it; and behind the last one the end.')
     out.append('pub const STARTS: [u8; 33] = [' + ', '.join(str(n) for n in starts_of(sorted(words))) + '];')
     return '\n'.join(out) + '\n'
@@ -366,14 +375,14 @@ def main():
     g.work_out()
     names = list(g.rules)
     for rule, column, first, second in g.conflicts:
-        where = g.classes[column] if column < len(g.classes) else 'view of ' + ' '.join(g.views[column - len(g.classes)])
+        where = g.classes[column] if column < len(g.classes) else 'view of ' + ' '.join(g.views[VIEWED - column])
         print(f'conflict in {rule} at {where}: productions {first} and {second}')
     print(f'{len(names)} rules, {len(g.productions) - 1} productions, {sum(len(r) for _, r in g.productions)} symbols, '
           f'{g.column_count} columns, {len(g.marks)} marks, greatest height {max(g.height.values())}, greatest weight {max(g.weight)}')
     if g.conflicts:
         return 1
     files = {'hs_syntax/src/table.rt': table_file(g), 'hs_syntax/src/words.rt': words_file(g), 'hs_syntax/specs/Rows.antt': rows_file(g),
-             'hs_parser/src/marks.rt': mark_file(g)}
+             'hs_parser/src/marks.rt': mark_file(g), PATH: g.numbers.text()}
     def bare(text):
         return re.sub(r'[\s,]', '', text)
 

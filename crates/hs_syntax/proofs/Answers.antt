@@ -17,8 +17,8 @@ use Rattle.hs_syntax.proofs.DerivedTo.{derived_to}
 -- every reading of the tokens is meant as the only sentence with them
 pub is_meant : (ts : List ℕ) (m : List Item) → Only table_grammar ts m → IsMeantBy ts m
 is_meant ts m h = record {
-    built = (written m h.sentence, h.spelt);
-    meant = λ other b. let d = derived_as other b.0 in subst (λ x. MeantAs other x) (h.alone d.0 d.1 (same_tokens d.2 ∙ b.1)) d.2
+  built = (written m h.sentence, h.spelt);
+  meant = λ other b. let d = derived_as other b.0 in subst (λ x. MeantAs other x) (h.alone d.0 d.1 (same_tokens d.2 ∙ b.1)) d.2;
 }
 
 begins : (front : List ℕ) → Begins table_grammar front → (more : List ℕ) × IsStatement (front ++ more)

@@ -24,13 +24,13 @@ claims =
     (claim ([]) (S.Rule 15 ∷ []) (to_any ([]) ∷ []) ∷ []) ∷
     (claim ([]) (S.Rule 16 ∷ []) (to_any ([]) ∷ []) ∷ []) ∷
     (claim ([]) (S.Rule 17 ∷ []) (to_any ([]) ∷ []) ∷ []) ∷
-    (claim ([]) (S.Rule 18 ∷ []) (to_any ([]) ∷ []) ∷ claim ([]) (S.Rule 158 ∷ []) (to_any (S.Take 47 ∷ S.Mark 201 ∷ []) ∷ owing (33 ∷ 26 ∷ []) (S.Rule 162 ∷ []) ∷ []) ∷ []) ∷
-    (claim ([]) (S.Rule 19 ∷ []) (to_any ([]) ∷ []) ∷ claim ([]) (S.Rule 150 ∷ []) (to_any (S.Rule 152 ∷ []) ∷ owing (33 ∷ []) (S.Rule 154 ∷ []) ∷ []) ∷ claim ([]) (S.Rule 158 ∷ []) (to_any (S.Mark 26 ∷ S.Rule 47 ∷ S.Rule 52 ∷ S.Take 47 ∷ S.Mark 201 ∷ []) ∷ owing (33 ∷ []) (S.Rule 162 ∷ []) ∷ []) ∷ []) ∷
-    (claim ([]) (S.Rule 20 ∷ []) (to_any ([]) ∷ []) ∷ claim (33 ∷ []) (S.Rule 154 ∷ []) (to_any (S.Rule 152 ∷ []) ∷ owing (33 ∷ []) (S.Rule 154 ∷ []) ∷ []) ∷ claim (33 ∷ []) (S.Rule 162 ∷ []) (to_any (S.Mark 26 ∷ S.Rule 47 ∷ S.Rule 52 ∷ S.Take 47 ∷ S.Mark 201 ∷ []) ∷ owing (33 ∷ []) (S.Rule 162 ∷ []) ∷ []) ∷ []) ∷
+    (claim ([]) (S.Rule 18 ∷ []) (to_any ([]) ∷ []) ∷ claim ([]) (S.Rule 158 ∷ []) (to_any (S.Take 48 ∷ S.Mark 201 ∷ []) ∷ owing (33 ∷ 26 ∷ []) (S.Rule 162 ∷ []) ∷ []) ∷ []) ∷
+    (claim ([]) (S.Rule 19 ∷ []) (to_any ([]) ∷ []) ∷ claim ([]) (S.Rule 150 ∷ []) (to_any (S.Rule 152 ∷ []) ∷ owing (33 ∷ []) (S.Rule 154 ∷ []) ∷ []) ∷ claim ([]) (S.Rule 158 ∷ []) (to_any (S.Mark 26 ∷ S.Rule 47 ∷ S.Rule 52 ∷ S.Take 48 ∷ S.Mark 201 ∷ []) ∷ owing (33 ∷ []) (S.Rule 162 ∷ []) ∷ []) ∷ []) ∷
+    (claim ([]) (S.Rule 20 ∷ []) (to_any ([]) ∷ []) ∷ claim (33 ∷ []) (S.Rule 154 ∷ []) (to_any (S.Rule 152 ∷ []) ∷ owing (33 ∷ []) (S.Rule 154 ∷ []) ∷ []) ∷ claim (33 ∷ []) (S.Rule 162 ∷ []) (to_any (S.Mark 26 ∷ S.Rule 47 ∷ S.Rule 52 ∷ S.Take 48 ∷ S.Mark 201 ∷ []) ∷ owing (33 ∷ []) (S.Rule 162 ∷ []) ∷ []) ∷ []) ∷
     (claim ([]) (S.Rule 21 ∷ []) (to_any ([]) ∷ []) ∷ []) ∷
-    (claim ([]) (S.Rule 22 ∷ []) (to_any ([]) ∷ []) ∷ claim ([]) (S.Rule 150 ∷ []) (to_any (S.Rule 20 ∷ S.Rule 152 ∷ []) ∷ owing (33 ∷ []) (S.Rule 154 ∷ []) ∷ []) ∷ claim ([]) (S.Rule 158 ∷ []) (to_any (S.Rule 20 ∷ S.Mark 26 ∷ S.Rule 47 ∷ S.Rule 52 ∷ S.Take 47 ∷ S.Mark 201 ∷ []) ∷ owing (33 ∷ []) (S.Rule 162 ∷ []) ∷ []) ∷ []) ∷
-    (claim ([]) (S.Rule 23 ∷ []) (to_any ([]) ∷ []) ∷ claim (33 ∷ []) (S.Rule 154 ∷ []) (to_any (S.Rule 20 ∷ S.Rule 152 ∷ []) ∷ owing (33 ∷ []) (S.Rule 154 ∷ []) ∷ []) ∷ claim (33 ∷ []) (S.Rule 162 ∷ []) (to_any (S.Rule 20 ∷ S.Mark 26 ∷ S.Rule 47 ∷ S.Rule 52 ∷ S.Take 47 ∷ S.Mark 201 ∷ []) ∷ owing (33 ∷ []) (S.Rule 162 ∷ []) ∷ []) ∷ []) ∷
-    (claim ([]) (S.Rule 24 ∷ []) (to_any ([]) ∷ []) ∷ claim ([]) (S.Rule 150 ∷ []) (to_any (S.Rule 23 ∷ S.Rule 20 ∷ S.Rule 152 ∷ []) ∷ owing (33 ∷ []) (S.Rule 154 ∷ []) ∷ []) ∷ claim ([]) (S.Rule 158 ∷ []) (to_any (S.Rule 23 ∷ S.Rule 20 ∷ S.Mark 26 ∷ S.Rule 47 ∷ S.Rule 52 ∷ S.Take 47 ∷ S.Mark 201 ∷ []) ∷ owing (33 ∷ []) (S.Rule 162 ∷ []) ∷ []) ∷ []) ∷
+    (claim ([]) (S.Rule 22 ∷ []) (to_any ([]) ∷ []) ∷ claim ([]) (S.Rule 150 ∷ []) (to_any (S.Rule 20 ∷ S.Rule 152 ∷ []) ∷ owing (33 ∷ []) (S.Rule 154 ∷ []) ∷ []) ∷ claim ([]) (S.Rule 158 ∷ []) (to_any (S.Rule 20 ∷ S.Mark 26 ∷ S.Rule 47 ∷ S.Rule 52 ∷ S.Take 48 ∷ S.Mark 201 ∷ []) ∷ owing (33 ∷ []) (S.Rule 162 ∷ []) ∷ []) ∷ []) ∷
+    (claim ([]) (S.Rule 23 ∷ []) (to_any ([]) ∷ []) ∷ claim (33 ∷ []) (S.Rule 154 ∷ []) (to_any (S.Rule 20 ∷ S.Rule 152 ∷ []) ∷ owing (33 ∷ []) (S.Rule 154 ∷ []) ∷ []) ∷ claim (33 ∷ []) (S.Rule 162 ∷ []) (to_any (S.Rule 20 ∷ S.Mark 26 ∷ S.Rule 47 ∷ S.Rule 52 ∷ S.Take 48 ∷ S.Mark 201 ∷ []) ∷ owing (33 ∷ []) (S.Rule 162 ∷ []) ∷ []) ∷ []) ∷
+    (claim ([]) (S.Rule 24 ∷ []) (to_any ([]) ∷ []) ∷ claim ([]) (S.Rule 150 ∷ []) (to_any (S.Rule 23 ∷ S.Rule 20 ∷ S.Rule 152 ∷ []) ∷ owing (33 ∷ []) (S.Rule 154 ∷ []) ∷ []) ∷ claim ([]) (S.Rule 158 ∷ []) (to_any (S.Rule 23 ∷ S.Rule 20 ∷ S.Mark 26 ∷ S.Rule 47 ∷ S.Rule 52 ∷ S.Take 48 ∷ S.Mark 201 ∷ []) ∷ owing (33 ∷ []) (S.Rule 162 ∷ []) ∷ []) ∷ []) ∷
     (claim ([]) (S.Rule 25 ∷ []) (to_any ([]) ∷ []) ∷ []) ∷
     (claim ([]) (S.Rule 26 ∷ []) (to_any ([]) ∷ []) ∷ []) ∷
     (claim ([]) (S.Rule 27 ∷ []) (to_any ([]) ∷ []) ∷ []) ∷
@@ -48,17 +48,17 @@ claims =
     (claim ([]) (S.Rule 39 ∷ []) (to_any ([]) ∷ []) ∷ []) ∷
     (claim ([]) (S.Rule 40 ∷ []) (to_any ([]) ∷ []) ∷ []) ∷
     (claim ([]) (S.Rule 41 ∷ []) (to_any ([]) ∷ []) ∷ []) ∷
-    (claim ([]) (S.Rule 42 ∷ []) (to_any ([]) ∷ []) ∷ claim ([]) (S.Rule 158 ∷ []) (to_any (S.Take 47 ∷ S.Mark 202 ∷ []) ∷ owing (199 ∷ 52 ∷ []) (S.Rule 162 ∷ []) ∷ []) ∷ []) ∷
-    (claim ([]) (S.Rule 43 ∷ []) (to_any ([]) ∷ []) ∷ claim (199 ∷ 52 ∷ []) (S.Rule 162 ∷ []) (to_any (S.Take 47 ∷ S.Mark 202 ∷ []) ∷ owing (199 ∷ 52 ∷ []) (S.Rule 162 ∷ []) ∷ []) ∷ []) ∷
+    (claim ([]) (S.Rule 42 ∷ []) (to_any ([]) ∷ []) ∷ claim ([]) (S.Rule 158 ∷ []) (to_any (S.Take 48 ∷ S.Mark 202 ∷ []) ∷ owing (199 ∷ 52 ∷ []) (S.Rule 162 ∷ []) ∷ []) ∷ []) ∷
+    (claim ([]) (S.Rule 43 ∷ []) (to_any ([]) ∷ []) ∷ claim (199 ∷ 52 ∷ []) (S.Rule 162 ∷ []) (to_any (S.Take 48 ∷ S.Mark 202 ∷ []) ∷ owing (199 ∷ 52 ∷ []) (S.Rule 162 ∷ []) ∷ []) ∷ []) ∷
     (claim ([]) (S.Rule 44 ∷ []) (to_any ([]) ∷ []) ∷ []) ∷
     (claim ([]) (S.Rule 45 ∷ []) (to_any ([]) ∷ []) ∷ []) ∷
     (claim ([]) (S.Rule 46 ∷ []) (to_any ([]) ∷ []) ∷ []) ∷
-    (claim ([]) (S.Rule 47 ∷ []) (to_any ([]) ∷ []) ∷ claim (33 ∷ 26 ∷ []) (S.Rule 162 ∷ []) (to_any (S.Rule 52 ∷ S.Take 47 ∷ S.Mark 201 ∷ []) ∷ owing (33 ∷ 26 ∷ []) (S.Rule 162 ∷ []) ∷ []) ∷ []) ∷
+    (claim ([]) (S.Rule 47 ∷ []) (to_any ([]) ∷ []) ∷ claim (33 ∷ 26 ∷ []) (S.Rule 162 ∷ []) (to_any (S.Rule 52 ∷ S.Take 48 ∷ S.Mark 201 ∷ []) ∷ owing (33 ∷ 26 ∷ []) (S.Rule 162 ∷ []) ∷ []) ∷ []) ∷
     (claim ([]) (S.Rule 48 ∷ []) (to_any ([]) ∷ []) ∷ []) ∷
     (claim ([]) (S.Rule 49 ∷ []) (to_any ([]) ∷ []) ∷ []) ∷
     (claim ([]) (S.Rule 50 ∷ []) (to_any ([]) ∷ []) ∷ []) ∷
     (claim ([]) (S.Rule 51 ∷ []) (to_any ([]) ∷ []) ∷ []) ∷
-    (claim ([]) (S.Rule 52 ∷ []) (to_any ([]) ∷ []) ∷ claim (33 ∷ 26 ∷ []) (S.Rule 162 ∷ []) (to_any (S.Take 47 ∷ S.Mark 201 ∷ []) ∷ owing (33 ∷ 26 ∷ []) (S.Rule 162 ∷ []) ∷ []) ∷ []) ∷
+    (claim ([]) (S.Rule 52 ∷ []) (to_any ([]) ∷ []) ∷ claim (33 ∷ 26 ∷ []) (S.Rule 162 ∷ []) (to_any (S.Take 48 ∷ S.Mark 201 ∷ []) ∷ owing (33 ∷ 26 ∷ []) (S.Rule 162 ∷ []) ∷ []) ∷ []) ∷
     (claim ([]) (S.Rule 53 ∷ []) (to_any ([]) ∷ []) ∷ []) ∷
     (claim ([]) (S.Rule 54 ∷ []) (to_any ([]) ∷ []) ∷ []) ∷
     (claim ([]) (S.Rule 55 ∷ []) (to_any ([]) ∷ []) ∷ []) ∷
@@ -170,10 +170,15 @@ claims =
     ([]) ∷
     ([]) ∷
     ([]) ∷
+    [] ∷ [] ∷ [] ∷ [] ∷ [] ∷ [] ∷ [] ∷ [] ∷ [] ∷ [] ∷ [] ∷ [] ∷ [] ∷ [] ∷ [] ∷ [] ∷ [] ∷ [] ∷ [] ∷ [] ∷ 
+    [] ∷ [] ∷ [] ∷ [] ∷ [] ∷ [] ∷ [] ∷ [] ∷ [] ∷ [] ∷ [] ∷ [] ∷ [] ∷ [] ∷ [] ∷ [] ∷ [] ∷ [] ∷ [] ∷ [] ∷ 
+    [] ∷ [] ∷ [] ∷ [] ∷ [] ∷ [] ∷ [] ∷ [] ∷ [] ∷ [] ∷ [] ∷ [] ∷ [] ∷ [] ∷ [] ∷ [] ∷ [] ∷ [] ∷ [] ∷ [] ∷ 
+    [] ∷ [] ∷ [] ∷ [] ∷ [] ∷ [] ∷ [] ∷ [] ∷ [] ∷ [] ∷ [] ∷ [] ∷ [] ∷ [] ∷ [] ∷ [] ∷ [] ∷ [] ∷ [] ∷ [] ∷ 
+    [] ∷ [] ∷ [] ∷ [] ∷ [] ∷ [] ∷ [] ∷ [] ∷ [] ∷ [] ∷ [] ∷ [] ∷ 
     (claim ([]) (S.Rule 56 ∷ []) (to_any ([]) ∷ []) ∷ claim ([]) (S.Rule 58 ∷ []) (to_any ([]) ∷ []) ∷ []) ∷
     (claim ([]) (S.Rule 61 ∷ []) (to_any (S.Rule 64 ∷ []) ∷ to_any (S.Rule 67 ∷ []) ∷ []) ∷ []) ∷
     (claim ([]) (S.Rule 64 ∷ []) (to_any (S.Rule 64 ∷ []) ∷ to_any (S.Rule 67 ∷ []) ∷ []) ∷ claim ([]) (S.Rule 67 ∷ []) (to_any (S.Rule 67 ∷ []) ∷ []) ∷ []) ∷
-    (claim ([]) (S.Rule 61 ∷ []) (to_any (S.Rule 64 ∷ []) ∷ to_any (S.Rule 67 ∷ []) ∷ []) ∷ claim ([]) (S.Take 46 ∷ S.Mark 63 ∷ S.Rule 66 ∷ S.Rule 65 ∷ []) (to_any (S.Rule 67 ∷ []) ∷ []) ∷ []) ∷
+    (claim ([]) (S.Rule 61 ∷ []) (to_any (S.Rule 64 ∷ []) ∷ to_any (S.Rule 67 ∷ []) ∷ []) ∷ claim ([]) (S.Take 47 ∷ S.Mark 63 ∷ S.Rule 66 ∷ S.Rule 65 ∷ []) (to_any (S.Rule 67 ∷ []) ∷ []) ∷ []) ∷
     (claim ([]) (S.Rule 63 ∷ []) (to_any (S.Rule 63 ∷ []) ∷ to_any (S.Rule 65 ∷ []) ∷ []) ∷ claim ([]) (S.Rule 65 ∷ []) (to_any (S.Rule 65 ∷ []) ∷ []) ∷ []) ∷
     (claim ([]) (S.Rule 62 ∷ []) (to_any (S.Rule 63 ∷ []) ∷ to_any (S.Rule 65 ∷ []) ∷ []) ∷ claim ([]) (S.Rule 66 ∷ []) (to_any ([]) ∷ []) ∷ []) ∷
     (claim ([]) (S.Rule 56 ∷ []) (to_any (S.Mark 61 ∷ []) ∷ []) ∷ claim ([]) (S.Rule 58 ∷ []) (to_any (S.Mark 61 ∷ []) ∷ []) ∷ []) ∷

@@ -122,6 +122,6 @@ one_way d e = elim (fewer d) [ inl i ↦ i | inr l ↦ elim (fewer e) [ inl i �
 
 pub one_reading : HasOneReading
 one_reading = record {
-    one = λ w a b x y. one_way (y.meant a x.built) (x.meant b y.built);
-    plain = λ w reading items x h y. nothing_else (y.meant reading x) h
+  one = λ w a b x y. one_way (y.meant a x.built) (x.meant b y.built);
+  plain = λ w reading items x h y. nothing_else (y.meant reading x) h;
 }

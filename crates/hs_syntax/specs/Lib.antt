@@ -4,6 +4,7 @@ pub mod Literal
 pub mod Marks
 pub mod Meant
 pub mod Names
+pub mod Reserved
 pub mod Rows
 pub mod Sql
 pub mod Statement

@@ -1,412 +1,412 @@
 -- The classes of tokens and the rules, by their names, made by grammar/make_literal.py.
 use Rattle.std.specs.Prelude.{ℕ}
 
-abbrev pub number_0 : ℕ
-number_0 = 1
-abbrev pub number_1 : ℕ
-number_1 = 2
-abbrev pub number_2 : ℕ
-number_2 = 3
-abbrev pub number_3 : ℕ
-number_3 = 4
-abbrev pub number_4 : ℕ
-number_4 = 5
-abbrev pub number_5 : ℕ
-number_5 = 6
-abbrev pub number_6 : ℕ
-number_6 = 7
-abbrev pub number_7 : ℕ
-number_7 = 8
-abbrev pub number_8 : ℕ
-number_8 = 9
-abbrev pub number_9 : ℕ
-number_9 = 10
-abbrev pub number_10 : ℕ
-number_10 = 11
-abbrev pub number_11 : ℕ
-number_11 = 12
-abbrev pub number_12 : ℕ
-number_12 = 13
-abbrev pub number_13 : ℕ
-number_13 = 14
-abbrev pub number_14 : ℕ
-number_14 = 15
-abbrev pub number_15 : ℕ
-number_15 = 16
-abbrev pub number_16 : ℕ
-number_16 = 17
-abbrev pub number_17 : ℕ
-number_17 = 18
-abbrev pub number_18 : ℕ
-number_18 = 19
-abbrev pub number_19 : ℕ
-number_19 = 20
-abbrev pub number_20 : ℕ
-number_20 = 21
-abbrev pub number_21 : ℕ
-number_21 = 22
-abbrev pub number_22 : ℕ
-number_22 = 23
-abbrev pub number_23 : ℕ
-number_23 = 24
-abbrev pub number_24 : ℕ
-number_24 = 25
-abbrev pub number_25 : ℕ
-number_25 = 26
-abbrev pub number_26 : ℕ
-number_26 = 27
-abbrev pub number_27 : ℕ
-number_27 = 28
-abbrev pub number_28 : ℕ
-number_28 = 29
-abbrev pub number_29 : ℕ
-number_29 = 30
-abbrev pub number_30 : ℕ
-number_30 = 31
-abbrev pub number_31 : ℕ
-number_31 = 32
-abbrev pub number_32 : ℕ
-number_32 = 33
-abbrev pub number_33 : ℕ
-number_33 = 34
-abbrev pub number_34 : ℕ
-number_34 = 35
-abbrev pub number_35 : ℕ
-number_35 = 36
-abbrev pub number_36 : ℕ
-number_36 = 37
-abbrev pub number_37 : ℕ
-number_37 = 38
-abbrev pub number_38 : ℕ
-number_38 = 39
-abbrev pub number_4000 : ℕ
-number_4000 = 40
-abbrev pub above : ℕ
-above = 41
-abbrev pub fraction : ℕ
-fraction = 42
-abbrev pub digit_text : ℕ
-digit_text = 43
-abbrev pub other_text : ℕ
-other_text = 44
-abbrev pub identifier : ℕ
-identifier = 45
-abbrev pub left_parenthesis : ℕ
-left_parenthesis = 46
-abbrev pub right_parenthesis : ℕ
-right_parenthesis = 47
-abbrev pub comma : ℕ
-comma = 48
-abbrev pub point : ℕ
-point = 49
-abbrev pub star : ℕ
-star = 50
-abbrev pub plus : ℕ
-plus = 51
-abbrev pub minus : ℕ
-minus = 52
-abbrev pub slash : ℕ
-slash = 53
-abbrev pub equal : ℕ
-equal = 54
-abbrev pub unequal : ℕ
-unequal = 55
-abbrev pub not_equal : ℕ
-not_equal = 56
-abbrev pub less : ℕ
-less = 57
-abbrev pub less_or_equal : ℕ
-less_or_equal = 58
-abbrev pub greater : ℕ
-greater = 59
-abbrev pub greater_or_equal : ℕ
-greater_or_equal = 60
-abbrev pub concatenate : ℕ
-concatenate = 61
-abbrev pub semicolon_mark : ℕ
-semicolon_mark = 62
-abbrev pub ACTION : ℕ
-ACTION = 63
-abbrev pub AUTOCOMMIT : ℕ
-AUTOCOMMIT = 64
-abbrev pub CACHED : ℕ
-CACHED = 65
-abbrev pub CHARACTERISTICS : ℕ
-CHARACTERISTICS = 66
-abbrev pub CHECKPOINT : ℕ
-CHECKPOINT = 67
-abbrev pub COMMITTED : ℕ
-COMMITTED = 68
-abbrev pub CONTROL : ℕ
-CONTROL = 69
-abbrev pub DATABASE : ℕ
-DATABASE = 70
-abbrev pub DELAY : ℕ
-DELAY = 71
-abbrev pub FILES : ℕ
-FILES = 72
-abbrev pub ISOLATION : ℕ
-ISOLATION = 73
-abbrev pub KEY : ℕ
-KEY = 74
-abbrev pub LEVEL : ℕ
-LEVEL = 75
-abbrev pub LOCKS : ℕ
-LOCKS = 76
-abbrev pub MEMORY : ℕ
-MEMORY = 77
-abbrev pub MVCC : ℕ
-MVCC = 78
-abbrev pub MVLOCKS : ℕ
-MVLOCKS = 79
-abbrev pub REPEATABLE : ℕ
-REPEATABLE = 80
-abbrev pub SERIALIZABLE : ℕ
-SERIALIZABLE = 81
-abbrev pub SESSION : ℕ
-SESSION = 82
-abbrev pub SHUTDOWN : ℕ
-SHUTDOWN = 83
-abbrev pub TRANSACTION : ℕ
-TRANSACTION = 84
-abbrev pub WORK : ℕ
-WORK = 85
-abbrev pub WRITE : ℕ
-WRITE = 86
-abbrev pub ABS : ℕ
-ABS = 87
-abbrev pub ADD : ℕ
-ADD = 88
-abbrev pub ALL : ℕ
-ALL = 89
-abbrev pub ALTER : ℕ
-ALTER = 90
-abbrev pub AND : ℕ
-AND = 91
-abbrev pub AS : ℕ
-AS = 92
-abbrev pub ASC : ℕ
-ASC = 93
-abbrev pub AVG : ℕ
-AVG = 94
-abbrev pub BETWEEN : ℕ
-BETWEEN = 95
-abbrev pub BIGINT : ℕ
-BIGINT = 96
-abbrev pub BOOLEAN : ℕ
-BOOLEAN = 97
-abbrev pub BOTH : ℕ
-BOTH = 98
-abbrev pub BY : ℕ
-BY = 99
-abbrev pub CASCADE : ℕ
-CASCADE = 100
-abbrev pub CASE : ℕ
-CASE = 101
-abbrev pub CAST : ℕ
-CAST = 102
-abbrev pub CHAR_LENGTH : ℕ
-CHAR_LENGTH = 103
-abbrev pub CHECK : ℕ
-CHECK = 104
-abbrev pub COALESCE : ℕ
-COALESCE = 105
-abbrev pub COLUMN : ℕ
-COLUMN = 106
-abbrev pub COMMIT : ℕ
-COMMIT = 107
-abbrev pub CONSTRAINT : ℕ
-CONSTRAINT = 108
-abbrev pub COUNT : ℕ
-COUNT = 109
-abbrev pub CREATE : ℕ
-CREATE = 110
-abbrev pub CROSS : ℕ
-CROSS = 111
-abbrev pub DATE : ℕ
-DATE = 112
-abbrev pub DAY : ℕ
-DAY = 113
-abbrev pub DECIMAL : ℕ
-DECIMAL = 114
-abbrev pub DEFAULT : ℕ
-DEFAULT = 115
-abbrev pub DELETE : ℕ
-DELETE = 116
-abbrev pub DESC : ℕ
-DESC = 117
-abbrev pub DISTINCT : ℕ
-DISTINCT = 118
-abbrev pub DROP : ℕ
-DROP = 119
-abbrev pub ELSE : ℕ
-ELSE = 120
-abbrev pub END : ℕ
-END = 121
-abbrev pub ESCAPE : ℕ
-ESCAPE = 122
-abbrev pub EXCEPT : ℕ
-EXCEPT = 123
-abbrev pub EXISTS : ℕ
-EXISTS = 124
-abbrev pub EXTRACT : ℕ
-EXTRACT = 125
-abbrev pub FOR : ℕ
-FOR = 126
-abbrev pub FOREIGN : ℕ
-FOREIGN = 127
-abbrev pub FROM : ℕ
-FROM = 128
-abbrev pub GROUP : ℕ
-GROUP = 129
-abbrev pub HAVING : ℕ
-HAVING = 130
-abbrev pub HOUR : ℕ
-HOUR = 131
-abbrev pub IN : ℕ
-IN = 132
-abbrev pub INDEX : ℕ
-INDEX = 133
-abbrev pub INNER : ℕ
-INNER = 134
-abbrev pub INSERT : ℕ
-INSERT = 135
-abbrev pub INT : ℕ
-INT = 136
-abbrev pub INTEGER : ℕ
-INTEGER = 137
-abbrev pub INTERSECT : ℕ
-INTERSECT = 138
-abbrev pub INTERVAL : ℕ
-INTERVAL = 139
-abbrev pub INTO : ℕ
-INTO = 140
-abbrev pub IS : ℕ
-IS = 141
-abbrev pub JOIN : ℕ
-JOIN = 142
-abbrev pub LEADING : ℕ
-LEADING = 143
-abbrev pub LEFT : ℕ
-LEFT = 144
-abbrev pub LIKE : ℕ
-LIKE = 145
-abbrev pub LIMIT : ℕ
-LIMIT = 146
-abbrev pub LOCK : ℕ
-LOCK = 147
-abbrev pub LOWER : ℕ
-LOWER = 148
-abbrev pub MAX : ℕ
-MAX = 149
-abbrev pub MIN : ℕ
-MIN = 150
-abbrev pub MINUTE : ℕ
-MINUTE = 151
-abbrev pub MOD : ℕ
-MOD = 152
-abbrev pub MONTH : ℕ
-MONTH = 153
-abbrev pub NO : ℕ
-NO = 154
-abbrev pub NOT : ℕ
-NOT = 155
-abbrev pub NULL : ℕ
-NULL = 156
-abbrev pub NULLIF : ℕ
-NULLIF = 157
-abbrev pub NUMERIC : ℕ
-NUMERIC = 158
-abbrev pub OFFSET : ℕ
-OFFSET = 159
-abbrev pub ON : ℕ
-ON = 160
-abbrev pub ONLY : ℕ
-ONLY = 161
-abbrev pub OR : ℕ
-OR = 162
-abbrev pub ORDER : ℕ
-ORDER = 163
-abbrev pub OUTER : ℕ
-OUTER = 164
-abbrev pub PRIMARY : ℕ
-PRIMARY = 165
-abbrev pub READ : ℕ
-READ = 166
-abbrev pub REFERENCES : ℕ
-REFERENCES = 167
-abbrev pub RELEASE : ℕ
-RELEASE = 168
-abbrev pub RESTRICT : ℕ
-RESTRICT = 169
-abbrev pub ROLLBACK : ℕ
-ROLLBACK = 170
-abbrev pub SAVEPOINT : ℕ
-SAVEPOINT = 171
-abbrev pub SECOND : ℕ
-SECOND = 172
-abbrev pub SELECT : ℕ
-SELECT = 173
-abbrev pub SET : ℕ
-SET = 174
-abbrev pub SMALLINT : ℕ
-SMALLINT = 175
-abbrev pub START : ℕ
-START = 176
-abbrev pub SUBSTRING : ℕ
-SUBSTRING = 177
-abbrev pub SUM : ℕ
-SUM = 178
-abbrev pub TABLE : ℕ
-TABLE = 179
-abbrev pub THEN : ℕ
-THEN = 180
-abbrev pub TIMESTAMP : ℕ
-TIMESTAMP = 181
-abbrev pub TO : ℕ
-TO = 182
-abbrev pub TRAILING : ℕ
-TRAILING = 183
-abbrev pub TRIM : ℕ
-TRIM = 184
-abbrev pub TRUE : ℕ
-TRUE = 185
-abbrev pub UNION : ℕ
-UNION = 186
-abbrev pub UNIQUE : ℕ
-UNIQUE = 187
-abbrev pub UPDATE : ℕ
-UPDATE = 188
-abbrev pub UPPER : ℕ
-UPPER = 189
-abbrev pub VALUES : ℕ
-VALUES = 190
-abbrev pub VARCHAR : ℕ
-VARCHAR = 191
-abbrev pub WHEN : ℕ
-WHEN = 192
-abbrev pub WHERE : ℕ
-WHERE = 193
-abbrev pub YEAR : ℕ
-YEAR = 194
-abbrev pub BLOB : ℕ
-BLOB = 195
-abbrev pub CHAR : ℕ
-CHAR = 196
-abbrev pub CLOB : ℕ
-CLOB = 197
-abbrev pub DOUBLE : ℕ
-DOUBLE = 198
-abbrev pub FLOAT : ℕ
-FLOAT = 199
-abbrev pub REAL : ℕ
-REAL = 200
-abbrev pub VARBINARY : ℕ
-VARBINARY = 201
-abbrev pub UNCOMMITTED : ℕ
-UNCOMMITTED = 202
 abbrev pub FALSE : ℕ
-FALSE = 203
+FALSE = 1
+abbrev pub number_0 : ℕ
+number_0 = 2
+abbrev pub number_1 : ℕ
+number_1 = 3
+abbrev pub number_2 : ℕ
+number_2 = 4
+abbrev pub number_3 : ℕ
+number_3 = 5
+abbrev pub number_4 : ℕ
+number_4 = 6
+abbrev pub number_5 : ℕ
+number_5 = 7
+abbrev pub number_6 : ℕ
+number_6 = 8
+abbrev pub number_7 : ℕ
+number_7 = 9
+abbrev pub number_8 : ℕ
+number_8 = 10
+abbrev pub number_9 : ℕ
+number_9 = 11
+abbrev pub number_10 : ℕ
+number_10 = 12
+abbrev pub number_11 : ℕ
+number_11 = 13
+abbrev pub number_12 : ℕ
+number_12 = 14
+abbrev pub number_13 : ℕ
+number_13 = 15
+abbrev pub number_14 : ℕ
+number_14 = 16
+abbrev pub number_15 : ℕ
+number_15 = 17
+abbrev pub number_16 : ℕ
+number_16 = 18
+abbrev pub number_17 : ℕ
+number_17 = 19
+abbrev pub number_18 : ℕ
+number_18 = 20
+abbrev pub number_19 : ℕ
+number_19 = 21
+abbrev pub number_20 : ℕ
+number_20 = 22
+abbrev pub number_21 : ℕ
+number_21 = 23
+abbrev pub number_22 : ℕ
+number_22 = 24
+abbrev pub number_23 : ℕ
+number_23 = 25
+abbrev pub number_24 : ℕ
+number_24 = 26
+abbrev pub number_25 : ℕ
+number_25 = 27
+abbrev pub number_26 : ℕ
+number_26 = 28
+abbrev pub number_27 : ℕ
+number_27 = 29
+abbrev pub number_28 : ℕ
+number_28 = 30
+abbrev pub number_29 : ℕ
+number_29 = 31
+abbrev pub number_30 : ℕ
+number_30 = 32
+abbrev pub number_31 : ℕ
+number_31 = 33
+abbrev pub number_32 : ℕ
+number_32 = 34
+abbrev pub number_33 : ℕ
+number_33 = 35
+abbrev pub number_34 : ℕ
+number_34 = 36
+abbrev pub number_35 : ℕ
+number_35 = 37
+abbrev pub number_36 : ℕ
+number_36 = 38
+abbrev pub number_37 : ℕ
+number_37 = 39
+abbrev pub number_38 : ℕ
+number_38 = 40
+abbrev pub number_4000 : ℕ
+number_4000 = 41
+abbrev pub above : ℕ
+above = 42
+abbrev pub fraction : ℕ
+fraction = 43
+abbrev pub digit_text : ℕ
+digit_text = 44
+abbrev pub other_text : ℕ
+other_text = 45
+abbrev pub identifier : ℕ
+identifier = 46
+abbrev pub left_parenthesis : ℕ
+left_parenthesis = 47
+abbrev pub right_parenthesis : ℕ
+right_parenthesis = 48
+abbrev pub comma : ℕ
+comma = 49
+abbrev pub point : ℕ
+point = 50
+abbrev pub star : ℕ
+star = 51
+abbrev pub plus : ℕ
+plus = 52
+abbrev pub minus : ℕ
+minus = 53
+abbrev pub slash : ℕ
+slash = 54
+abbrev pub equal : ℕ
+equal = 55
+abbrev pub unequal : ℕ
+unequal = 56
+abbrev pub not_equal : ℕ
+not_equal = 57
+abbrev pub less : ℕ
+less = 58
+abbrev pub less_or_equal : ℕ
+less_or_equal = 59
+abbrev pub greater : ℕ
+greater = 60
+abbrev pub greater_or_equal : ℕ
+greater_or_equal = 61
+abbrev pub concatenate : ℕ
+concatenate = 62
+abbrev pub semicolon_mark : ℕ
+semicolon_mark = 63
+abbrev pub ACTION : ℕ
+ACTION = 64
+abbrev pub AUTOCOMMIT : ℕ
+AUTOCOMMIT = 65
+abbrev pub CACHED : ℕ
+CACHED = 66
+abbrev pub CHARACTERISTICS : ℕ
+CHARACTERISTICS = 67
+abbrev pub CHECKPOINT : ℕ
+CHECKPOINT = 68
+abbrev pub COMMITTED : ℕ
+COMMITTED = 69
+abbrev pub CONTROL : ℕ
+CONTROL = 70
+abbrev pub DATABASE : ℕ
+DATABASE = 71
+abbrev pub DELAY : ℕ
+DELAY = 72
+abbrev pub FILES : ℕ
+FILES = 73
+abbrev pub ISOLATION : ℕ
+ISOLATION = 74
+abbrev pub KEY : ℕ
+KEY = 75
+abbrev pub LEVEL : ℕ
+LEVEL = 76
+abbrev pub LOCKS : ℕ
+LOCKS = 77
+abbrev pub MEMORY : ℕ
+MEMORY = 78
+abbrev pub MVCC : ℕ
+MVCC = 79
+abbrev pub MVLOCKS : ℕ
+MVLOCKS = 80
+abbrev pub REPEATABLE : ℕ
+REPEATABLE = 81
+abbrev pub SERIALIZABLE : ℕ
+SERIALIZABLE = 82
+abbrev pub SESSION : ℕ
+SESSION = 83
+abbrev pub SHUTDOWN : ℕ
+SHUTDOWN = 84
+abbrev pub TRANSACTION : ℕ
+TRANSACTION = 85
+abbrev pub WORK : ℕ
+WORK = 86
+abbrev pub WRITE : ℕ
+WRITE = 87
+abbrev pub ABS : ℕ
+ABS = 88
+abbrev pub ADD : ℕ
+ADD = 89
+abbrev pub ALL : ℕ
+ALL = 90
+abbrev pub ALTER : ℕ
+ALTER = 91
+abbrev pub AND : ℕ
+AND = 92
+abbrev pub AS : ℕ
+AS = 93
+abbrev pub ASC : ℕ
+ASC = 94
+abbrev pub AVG : ℕ
+AVG = 95
+abbrev pub BETWEEN : ℕ
+BETWEEN = 96
+abbrev pub BIGINT : ℕ
+BIGINT = 97
+abbrev pub BOOLEAN : ℕ
+BOOLEAN = 98
+abbrev pub BOTH : ℕ
+BOTH = 99
+abbrev pub BY : ℕ
+BY = 100
+abbrev pub CASCADE : ℕ
+CASCADE = 101
+abbrev pub CASE : ℕ
+CASE = 102
+abbrev pub CAST : ℕ
+CAST = 103
+abbrev pub CHAR_LENGTH : ℕ
+CHAR_LENGTH = 104
+abbrev pub CHECK : ℕ
+CHECK = 105
+abbrev pub COALESCE : ℕ
+COALESCE = 106
+abbrev pub COLUMN : ℕ
+COLUMN = 107
+abbrev pub COMMIT : ℕ
+COMMIT = 108
+abbrev pub CONSTRAINT : ℕ
+CONSTRAINT = 109
+abbrev pub COUNT : ℕ
+COUNT = 110
+abbrev pub CREATE : ℕ
+CREATE = 111
+abbrev pub CROSS : ℕ
+CROSS = 112
+abbrev pub DATE : ℕ
+DATE = 113
+abbrev pub DAY : ℕ
+DAY = 114
+abbrev pub DECIMAL : ℕ
+DECIMAL = 115
+abbrev pub DEFAULT : ℕ
+DEFAULT = 116
+abbrev pub DELETE : ℕ
+DELETE = 117
+abbrev pub DESC : ℕ
+DESC = 118
+abbrev pub DISTINCT : ℕ
+DISTINCT = 119
+abbrev pub DROP : ℕ
+DROP = 120
+abbrev pub ELSE : ℕ
+ELSE = 121
+abbrev pub END : ℕ
+END = 122
+abbrev pub ESCAPE : ℕ
+ESCAPE = 123
+abbrev pub EXCEPT : ℕ
+EXCEPT = 124
+abbrev pub EXISTS : ℕ
+EXISTS = 125
+abbrev pub EXTRACT : ℕ
+EXTRACT = 126
+abbrev pub FOR : ℕ
+FOR = 127
+abbrev pub FOREIGN : ℕ
+FOREIGN = 128
+abbrev pub FROM : ℕ
+FROM = 129
+abbrev pub GROUP : ℕ
+GROUP = 130
+abbrev pub HAVING : ℕ
+HAVING = 131
+abbrev pub HOUR : ℕ
+HOUR = 132
+abbrev pub IN : ℕ
+IN = 133
+abbrev pub INDEX : ℕ
+INDEX = 134
+abbrev pub INNER : ℕ
+INNER = 135
+abbrev pub INSERT : ℕ
+INSERT = 136
+abbrev pub INT : ℕ
+INT = 137
+abbrev pub INTEGER : ℕ
+INTEGER = 138
+abbrev pub INTERSECT : ℕ
+INTERSECT = 139
+abbrev pub INTERVAL : ℕ
+INTERVAL = 140
+abbrev pub INTO : ℕ
+INTO = 141
+abbrev pub IS : ℕ
+IS = 142
+abbrev pub JOIN : ℕ
+JOIN = 143
+abbrev pub LEADING : ℕ
+LEADING = 144
+abbrev pub LEFT : ℕ
+LEFT = 145
+abbrev pub LIKE : ℕ
+LIKE = 146
+abbrev pub LIMIT : ℕ
+LIMIT = 147
+abbrev pub LOCK : ℕ
+LOCK = 148
+abbrev pub LOWER : ℕ
+LOWER = 149
+abbrev pub MAX : ℕ
+MAX = 150
+abbrev pub MIN : ℕ
+MIN = 151
+abbrev pub MINUTE : ℕ
+MINUTE = 152
+abbrev pub MOD : ℕ
+MOD = 153
+abbrev pub MONTH : ℕ
+MONTH = 154
+abbrev pub NO : ℕ
+NO = 155
+abbrev pub NOT : ℕ
+NOT = 156
+abbrev pub NULL : ℕ
+NULL = 157
+abbrev pub NULLIF : ℕ
+NULLIF = 158
+abbrev pub NUMERIC : ℕ
+NUMERIC = 159
+abbrev pub OFFSET : ℕ
+OFFSET = 160
+abbrev pub ON : ℕ
+ON = 161
+abbrev pub ONLY : ℕ
+ONLY = 162
+abbrev pub OR : ℕ
+OR = 163
+abbrev pub ORDER : ℕ
+ORDER = 164
+abbrev pub OUTER : ℕ
+OUTER = 165
+abbrev pub PRIMARY : ℕ
+PRIMARY = 166
+abbrev pub READ : ℕ
+READ = 167
+abbrev pub REFERENCES : ℕ
+REFERENCES = 168
+abbrev pub RELEASE : ℕ
+RELEASE = 169
+abbrev pub RESTRICT : ℕ
+RESTRICT = 170
+abbrev pub ROLLBACK : ℕ
+ROLLBACK = 171
+abbrev pub SAVEPOINT : ℕ
+SAVEPOINT = 172
+abbrev pub SECOND : ℕ
+SECOND = 173
+abbrev pub SELECT : ℕ
+SELECT = 174
+abbrev pub SET : ℕ
+SET = 175
+abbrev pub SMALLINT : ℕ
+SMALLINT = 176
+abbrev pub START : ℕ
+START = 177
+abbrev pub SUBSTRING : ℕ
+SUBSTRING = 178
+abbrev pub SUM : ℕ
+SUM = 179
+abbrev pub TABLE : ℕ
+TABLE = 180
+abbrev pub THEN : ℕ
+THEN = 181
+abbrev pub TIMESTAMP : ℕ
+TIMESTAMP = 182
+abbrev pub TO : ℕ
+TO = 183
+abbrev pub TRAILING : ℕ
+TRAILING = 184
+abbrev pub TRIM : ℕ
+TRIM = 185
+abbrev pub TRUE : ℕ
+TRUE = 186
+abbrev pub UNION : ℕ
+UNION = 187
+abbrev pub UNIQUE : ℕ
+UNIQUE = 188
+abbrev pub UPDATE : ℕ
+UPDATE = 189
+abbrev pub UPPER : ℕ
+UPPER = 190
+abbrev pub VALUES : ℕ
+VALUES = 191
+abbrev pub VARCHAR : ℕ
+VARCHAR = 192
+abbrev pub WHEN : ℕ
+WHEN = 193
+abbrev pub WHERE : ℕ
+WHERE = 194
+abbrev pub YEAR : ℕ
+YEAR = 195
+abbrev pub BLOB : ℕ
+BLOB = 196
+abbrev pub CHAR : ℕ
+CHAR = 197
+abbrev pub CLOB : ℕ
+CLOB = 198
+abbrev pub DOUBLE : ℕ
+DOUBLE = 199
+abbrev pub FLOAT : ℕ
+FLOAT = 200
+abbrev pub REAL : ℕ
+REAL = 201
+abbrev pub VARBINARY : ℕ
+VARBINARY = 202
+abbrev pub UNCOMMITTED : ℕ
+UNCOMMITTED = 203
 abbrev pub start : ℕ
 start = 0
 abbrev pub semicolon : ℕ
@@ -522,31 +522,31 @@ insert = 55
 abbrev pub source : ℕ
 source = 56
 abbrev pub contents : ℕ
-contents = 164
+contents = 256
 abbrev pub tuples : ℕ
-tuples = 165
+tuples = 257
 abbrev pub tuples_more : ℕ
-tuples_more = 166
+tuples_more = 258
 abbrev pub tuple : ℕ
-tuple = 167
+tuple = 259
 abbrev pub values_more : ℕ
-values_more = 168
+values_more = 260
 abbrev pub tuple_value : ℕ
-tuple_value = 169
+tuple_value = 261
 abbrev pub inserted_query : ℕ
-inserted_query = 170
+inserted_query = 262
 abbrev pub query_tail : ℕ
 query_tail = 60
 abbrev pub rows_of_values : ℕ
-rows_of_values = 171
+rows_of_values = 263
 abbrev pub rows_of_values_more : ℕ
-rows_of_values_more = 172
+rows_of_values_more = 264
 abbrev pub row_of_values : ℕ
-row_of_values = 173
+row_of_values = 265
 abbrev pub row_of_values_more : ℕ
-row_of_values_more = 174
+row_of_values_more = 266
 abbrev pub behind_rows : ℕ
-behind_rows = 175
+behind_rows = 267
 abbrev pub update : ℕ
 update = 68
 abbrev pub pairs_more : ℕ
@@ -574,7 +574,7 @@ create = 79
 abbrev pub created : ℕ
 created = 80
 abbrev pub table_definition : ℕ
-table_definition = 176
+table_definition = 268
 abbrev pub elements_more : ℕ
 elements_more = 82
 abbrev pub element : ℕ
@@ -676,7 +676,7 @@ sign = 130
 abbrev pub primary : ℕ
 primary = 131
 abbrev pub ordered : ℕ
-ordered = 177
+ordered = 269
 abbrev pub intervals : ℕ
 intervals = 132
 abbrev pub interval : ℕ
