@@ -746,6 +746,14 @@ def antt_run(tree):
     return 'no'
 
 
+def written_part(part, g):
+    if part[0] == 'rule':
+        return part[1]
+    if part[0] in ('word', 'mark'):
+        return (g.classes if part[0] == 'word' else g.marks)[part[1]]
+    return '<p,s>' if part[0] == 'scaled' else f'<{g.classes[part[1]]}..{g.classes[part[2]]}>'
+
+
 def runs_file(g, literal):
     search = Runs(g, literal)
     left_out = []
@@ -797,20 +805,25 @@ def main():
     files[os.path.join(HERE, 'literal.ebnf')] = lines_file(literal)
     print(f'{len(literal.productions)} literal productions; without a script: {", ".join(name for _, name, _ in by_hand)}; '
           f'without a run: {", ".join(x[1] for x in left_out)}')
+    if [(name, ('scaled',) in parts) for _, name, parts, _ in left_out] != [('decimal', True)]:
+        raise SystemExit('only decimal may be without a run, but these are:\n' + '\n'.join(
+            f'  {name} : {" ".join(written_part(part, g) for part in parts)}' for _, name, parts, _ in left_out))
+
     def bare(text):
         return re.sub(r'\s', '', text)
 
     stale = []
     for name, text in files.items():
         path = os.path.join(CRATES, name)
+        if os.path.exists(path) and bare(open(path).read()) == bare(text):
+            continue
         if '--check' in sys.argv:
-            if not os.path.exists(path) or bare(open(path).read()) != bare(text):
-                stale.append(name)
+            stale.append(name)
         else:
             os.makedirs(os.path.dirname(path), exist_ok=True)
             open(path, 'w').write(text)
     for name in stale:
-        print(f'{name} is not what the grammars make')
+        print(f'{os.path.relpath(os.path.join(CRATES, name))} is not what the grammars make')
     return 1 if stale else 0
 
 

@@ -12,9 +12,9 @@ HEAD = """# The rules, productions and steps in the order of their numbers, from
 
 
 class Numbers:
-    def __init__(self):
+    def __init__(self, path=PATH):
         self.kept = {}
-        lists = open(PATH).read().split('\n') if os.path.exists(PATH) else []
+        lists = open(path).read().split('\n') if path and os.path.exists(path) else []
         for line in lists:
             if line.startswith('## '):
                 found = self.kept.setdefault(line[3:], [])

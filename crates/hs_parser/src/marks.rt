@@ -1,6 +1,12 @@
 // The steps that build a tree, by their numbers, made by grammar/make_table.py.
-use hs_ast::{Access, Aggregate, BinaryOperator, DataType, DateField, Function, IntervalUnit, Isolation, ReferentialAction, SetOperator, Sign, Storage, TransactionControl, TrimForm};
-use hs_builder::{ChangeMark, DefinitionMark, ExpressionMark, FunctionMark, LeafMark, Mark, QueryMark, SessionMark};
+use hs_ast::{
+    Access, Aggregate, BinaryOperator, DataType, DateField, Function, IntervalUnit, Isolation,
+    ReferentialAction, SetOperator, Sign, Storage, TransactionControl, TrimForm,
+};
+use hs_builder::{
+    ChangeMark, DefinitionMark, ExpressionMark, FunctionMark, LeafMark, Mark, QueryMark,
+    SessionMark,
+};
 
 pub const MARKS: [Mark; 203] = [
     Mark::Change(ChangeMark::QueryStatement),
@@ -160,10 +166,10 @@ pub const MARKS: [Mark; 203] = [
     Mark::Expression(ExpressionMark::Signed(Sign::Minus)),
     Mark::Expression(ExpressionMark::Signed(Sign::Plus)),
     Mark::Expression(ExpressionMark::Digits),
-    Mark::Expression(ExpressionMark::Interval(Sign::Plus,IntervalUnit::Day)),
-    Mark::Expression(ExpressionMark::Interval(Sign::Plus,IntervalUnit::Month)),
-    Mark::Expression(ExpressionMark::Interval(Sign::Minus,IntervalUnit::Day)),
-    Mark::Expression(ExpressionMark::Interval(Sign::Minus,IntervalUnit::Month)),
+    Mark::Expression(ExpressionMark::Interval(Sign::Plus, IntervalUnit::Day)),
+    Mark::Expression(ExpressionMark::Interval(Sign::Plus, IntervalUnit::Month)),
+    Mark::Expression(ExpressionMark::Interval(Sign::Minus, IntervalUnit::Day)),
+    Mark::Expression(ExpressionMark::Interval(Sign::Minus, IntervalUnit::Month)),
     Mark::Expression(ExpressionMark::Literal),
     Mark::Function(FunctionMark::Cast),
     Mark::Function(FunctionMark::Case),

@@ -6,7 +6,7 @@ pub mod Firsts
 pub mod Letters
 pub mod LiteralRuns
 pub mod Meant
-pub mod Reserved
+pub mod NameOrReserved
 pub mod Rewriting
 pub mod Runs
 pub mod RunsTo

@@ -945,15 +945,19 @@ refused_as = 0 ∷ 0 ∷ 0 ∷ 0 ∷ 0 ∷ 0 ∷ 0 ∷ 0 ∷ 0 ∷ 0 ∷ 0 ∷ 0
 -- the productions that are read by hand
 abbrev pub by_hand : List ℕ
 by_hand = 244 ∷ 246 ∷ 247 ∷ []
+
 abbrev pub in_parentheses : ℕ
 in_parentheses = 244
+
 abbrev pub some_scale : ℕ
 some_scale = 246
+
 abbrev pub no_scale : ℕ
 no_scale = 247
 
 -- the literal productions of a precision alone, and of one with a scale
 abbrev pub alone : ℕ
 alone = 237
+
 abbrev pub with_scale : ℕ
 with_scale = 238

@@ -98,8 +98,8 @@ no_more : (b : Bool) → T b → not b ≡ false
 no_more true h = refl
 no_more false h = absurd h
 
-pub name_or_reserved : (word : List ℕ) → (is_reserved word ≡ false) ↔ IsName word
-name_or_reserved word = (
-  (λ e. (_, found name_classes 0 (word_class word) all_in_order (not_not (is_one (word_class word) name_classes) e), refl)),
-  (λ n. no_more (is_one (word_class word) name_classes) (name_written n.0 (word_class word) n.1 n.2)),
+pub name_or_reserved : (spelled : List ℕ) → (is_reserved spelled ≡ false) ↔ IsName spelled
+name_or_reserved spelled = (
+  (λ e. (_, found name_classes 0 (word_class spelled) all_in_order (not_not (is_one (word_class spelled) name_classes) e), refl)),
+  (λ n. no_more (is_one (word_class spelled) name_classes) (name_written n.0 (word_class spelled) n.1 n.2)),
 )
