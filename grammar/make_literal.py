@@ -137,7 +137,7 @@ def words_file(g, literal):
     for name, spelled in (('words', words), ('signs', signs)):
         out += ['', f'abbrev pub {name} : List (List ℕ × ℕ)', f'{name} =']
         out += [f'    (codes "{c}", {quoted(name_of(c))}) ∷' for c in spelled] + ['    []']
-    out += ['', '-- the classes of the words that may be names, and that of the words that are none of the grammar\'s', 'abbrev pub name_classes : List ℕ',
+    out += ['', '-- the classes of the words that may be names, and that of the words that are none of the grammar\'s', 'unfoldable pub name_classes : List ℕ',
             'name_classes = ' + ' ∷ '.join([quoted(name_of(c)) for c in may_be] + ['[]'])]
     return '\n'.join(out) + '\n'
 

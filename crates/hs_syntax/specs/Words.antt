@@ -169,5 +169,5 @@ signs =
     []
 
 -- the classes of the words that may be names, and that of the words that are none of the grammar's
-abbrev pub name_classes : List ℕ
+unfoldable pub name_classes : List ℕ
 name_classes = identifier ∷ ACTION ∷ AUTOCOMMIT ∷ CACHED ∷ CHARACTERISTICS ∷ CHECKPOINT ∷ COMMITTED ∷ CONTROL ∷ DATABASE ∷ DELAY ∷ FILES ∷ ISOLATION ∷ KEY ∷ LEVEL ∷ LOCKS ∷ MEMORY ∷ MVCC ∷ MVLOCKS ∷ REPEATABLE ∷ SERIALIZABLE ∷ SESSION ∷ SHUTDOWN ∷ TRANSACTION ∷ WORK ∷ WRITE ∷ []

@@ -8,6 +8,7 @@ use crate::class::word_class;
 use crate::words::NAMES;
 
 /// Whether a class is one of those of the words that are names.
+#[tactic(auto, unfolding(crate::specs::Words::name_classes))]
 fn is_name_class(class: u8) -> bool
     ensures { result ≡ list_any (λ c. nat_eq c class) name_classes }
 {
