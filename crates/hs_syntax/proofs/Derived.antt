@@ -1,5 +1,5 @@
 -- Each statement of the literal grammar, its steps included, is meant as a sentence of the table's.
-use Rattle.std.proofs.Common.{◌≡◌, ℕ, ◌<◌, ◌≤◌, max, Bool, true, false, ◌&&◌, eqb, ltb, T, None, List, [], ◌∷◌, length, get_or, refl, ap, sym, ◌∙◌, subst, arith, append-nil, ◌⊎◌, inl, inr}
+use Rattle.std.proofs.Common.{◌≡◌, ℕ, ◌<◌, ◌≤◌, max, Bool, true, false, ◌&&◌, eqb, ltb, T, None, List, [], ◌∷◌, length, get_or, refl, ap, sym, ◌∙◌, subst, arith, ◌⊎◌, inl, inr}
 use Rattle.std.proofs.Math.Facts.{eqb_yes, ltb_yes}
 use Rattle.hs_grammar.proofs.Sets.{and_left, and_right, all_at}
 use Rattle.hs_grammar.specs.declared.types.Item.{Item}
@@ -10,7 +10,7 @@ use Rattle.hs_grammar.specs.Check.{all_below}
 use Rattle.hs_syntax.specs.declared.table.TheConstants.{PRODUCTIONS}
 use Rattle.hs_syntax.specs.Statement.{table_grammar}
 use Rattle.hs_syntax.specs.Marks as mark_of
-use Rattle.hs_syntax.specs.Names.{comma, number_0, number_38, start, decimal, left_parenthesis, right_parenthesis}
+use Rattle.hs_syntax.specs.Names.{number_0, number_38, start, decimal, left_parenthesis, right_parenthesis}
 use Rattle.hs_syntax.specs.Literal.{Part, rule, productions, production, Writes, IsStatement}
 use Rattle.hs_syntax.specs.Meant.{MeantAs, ends, same}
 use Rattle.hs_syntax.proofs.Meant.{same_tokens}

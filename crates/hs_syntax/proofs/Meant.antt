@@ -7,7 +7,7 @@ use Rattle.hs_grammar.specs.declared.types.Item.TheVariants as I
 use Rattle.hs_grammar.specs.Grammar.{tokens_of}
 use Rattle.hs_syntax.specs.Marks.{bracket, first, in_list, query, in_query}
 use Rattle.hs_syntax.specs.Names.{right_parenthesis}
-use Rattle.hs_syntax.specs.Meant.{MeantAs, ends, same, body_in_parentheses, query_behind_in, as_expression, as_body, close, HasNoSpot, IsMeantBy, HasOneReading}
+use Rattle.hs_syntax.specs.Meant.{MeantAs, ends, same, body_in_parentheses, query_behind_in, as_expression, as_body, close, HasNoSpot, HasOneReading}
 
 -- ---- equal items, by computation
 

@@ -1,6 +1,6 @@
 -- What the literal grammar writes is derived by the table's grammar, steps included, but for what is meant otherwise: a test of each
 -- literal production by a script, and what it shows.
-use Rattle.std.proofs.Common.{◌≡◌, ℕ, zero, suc, ◌+◌, ◌<◌, ◌≤◌, Bool, true, false, ◌&&◌, eqb, ltb, leb, T, Option, Some, None, List, [], ◌∷◌, ◌++◌, length, get_or, refl, ap, sym, ◌∙◌, subst, arith, append_assoc, ◌⊎◌, inl, inr}
+use Rattle.std.proofs.Common.{◌≡◌, ℕ, zero, suc, ◌+◌, ◌<◌, ◌≤◌, Bool, true, false, ◌&&◌, eqb, ltb, leb, T, Option, Some, None, List, [], ◌∷◌, ◌++◌, length, get_or, refl, sym, subst, arith, append_assoc, ◌⊎◌, inl, inr}
 use Rattle.std.proofs.Math.Facts.{eqb_yes, ltb_yes, leb_yes}
 use Rattle.hs_grammar.proofs.Sets.{and_left, and_right}
 use Rattle.hs_grammar.specs.declared.types.Symbol.{Symbol}

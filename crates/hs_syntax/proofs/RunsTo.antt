@@ -1,9 +1,8 @@
 -- The same up to a word that isn't offered.
-use Rattle.std.proofs.Common.{◌≡◌, ℕ, zero, suc, ◌<◌, ◌≤◌, ◌&&◌, eqb, ltb, leb, T, Option, Some, None, List, [], ◌∷◌, ◌++◌, length, refl, ap, sym, ◌∙◌, subst, arith, append_assoc, ◌⊎◌, inl, inr}
+use Rattle.std.proofs.Common.{◌≡◌, ℕ, zero, suc, ◌<◌, ◌≤◌, ◌&&◌, eqb, ltb, leb, T, Option, Some, None, List, [], ◌∷◌, ◌++◌, length, refl, sym, subst, arith, append_assoc, ◌⊎◌, inl, inr}
 use Rattle.std.proofs.Math.Facts.{eqb_yes, ltb_yes, leb_yes}
 use Rattle.hs_grammar.proofs.Sets.{and_left, and_right}
 use Rattle.hs_grammar.specs.declared.types.Symbol.{Symbol}
-use Rattle.hs_grammar.specs.declared.types.Symbol.TheVariants as S
 use Rattle.hs_grammar.specs.declared.types.Item.{Item}
 use Rattle.hs_grammar.specs.declared.types.Item.TheVariants as I
 use Rattle.hs_grammar.specs.Grammar.{Grammar, right, rule_of, refused}
