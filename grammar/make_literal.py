@@ -76,6 +76,8 @@ class Literal:
         if word in g.number:
             return ('word', g.number[word])
         if word in g.named:
+            if word not in g.marks:
+                raise SystemExit(f'no production of the table has {word}')
             return ('mark', g.marks.index(word))
         assert word in self.order, word
         return ('rule', word)
