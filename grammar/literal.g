@@ -183,7 +183,7 @@ control : LOCKS #control_locks | !MVLOCKS | !MVCC
 default_level : READ default_committed | SERIALIZABLE #default_serializable
 default_committed : COMMITTED #default_read_committed | !UNCOMMITTED
 truth : TRUE #autocommit_true | FALSE #autocommit_false
-write_delay : FALSE #write_delay_false | !0..
+write_delay : FALSE #write_delay_false | !0..identifier | !(..
 
 ## e = conjunction { OR conjunction }
 e : conjunction or_more

@@ -155,13 +155,13 @@
 # ---------------------------------------------------------------------------------------------------------------------
 
 classes
-  # the one that may stand behind WRITE DELAY, where `!0..` refuses all others
-  FALSE
   # whole numbers by their value: 0 to 38, up to 4,000, and above; a number with a point
   0 1 2 3 4 5 6 7 8 9 10 11 12 13 14 15 16 17 18 19 20 21 22 23 24 25 26 27 28 29 30 31 32 33 34 35 36 37 38 4000 above
   fraction
   # texts, of which those of 1 to 18 digits are a class of their own; a word that isn't listed here, or a quoted name
   digit_text other_text identifier
+  # the one that may stand behind WRITE DELAY, where those before it and those behind it are refused
+  FALSE
   # symbols
   ( ) , . * + - / = <> != < <= > >= || ;
   # words that may be names; NUMBER and TYPE, which no rule has, are names like any other
@@ -537,7 +537,7 @@ control : LOCKS #control_locks | !MVLOCKS | !MVCC
 default_level : READ default_committed | SERIALIZABLE #default_serializable
 default_committed : COMMITTED #default_read_committed | !UNCOMMITTED
 truth : TRUE #autocommit_true | FALSE #autocommit_false
-write_delay : FALSE #write_delay_false | !0..
+write_delay : FALSE #write_delay_false | !0..identifier | !(..
 
 # ---- expressions
 

@@ -576,4 +576,5 @@ refusal_runs =
     (by 266 (finish 0) ∷ []) ∷
     (by 270 (finish 0) ∷ []) ∷
     (by 274 (finish 0) ∷ []) ∷
+    (by 421 (finish 0) ∷ []) ∷
     []

@@ -1,143 +1,143 @@
 -- The classes of tokens and the rules, by their names, made by grammar/make_literal.py.
 use Rattle.std.specs.Prelude.{ℕ}
 
-abbrev pub FALSE : ℕ
-FALSE = 1
-
 abbrev pub number_0 : ℕ
-number_0 = 2
+number_0 = 1
 
 abbrev pub number_1 : ℕ
-number_1 = 3
+number_1 = 2
 
 abbrev pub number_2 : ℕ
-number_2 = 4
+number_2 = 3
 
 abbrev pub number_3 : ℕ
-number_3 = 5
+number_3 = 4
 
 abbrev pub number_4 : ℕ
-number_4 = 6
+number_4 = 5
 
 abbrev pub number_5 : ℕ
-number_5 = 7
+number_5 = 6
 
 abbrev pub number_6 : ℕ
-number_6 = 8
+number_6 = 7
 
 abbrev pub number_7 : ℕ
-number_7 = 9
+number_7 = 8
 
 abbrev pub number_8 : ℕ
-number_8 = 10
+number_8 = 9
 
 abbrev pub number_9 : ℕ
-number_9 = 11
+number_9 = 10
 
 abbrev pub number_10 : ℕ
-number_10 = 12
+number_10 = 11
 
 abbrev pub number_11 : ℕ
-number_11 = 13
+number_11 = 12
 
 abbrev pub number_12 : ℕ
-number_12 = 14
+number_12 = 13
 
 abbrev pub number_13 : ℕ
-number_13 = 15
+number_13 = 14
 
 abbrev pub number_14 : ℕ
-number_14 = 16
+number_14 = 15
 
 abbrev pub number_15 : ℕ
-number_15 = 17
+number_15 = 16
 
 abbrev pub number_16 : ℕ
-number_16 = 18
+number_16 = 17
 
 abbrev pub number_17 : ℕ
-number_17 = 19
+number_17 = 18
 
 abbrev pub number_18 : ℕ
-number_18 = 20
+number_18 = 19
 
 abbrev pub number_19 : ℕ
-number_19 = 21
+number_19 = 20
 
 abbrev pub number_20 : ℕ
-number_20 = 22
+number_20 = 21
 
 abbrev pub number_21 : ℕ
-number_21 = 23
+number_21 = 22
 
 abbrev pub number_22 : ℕ
-number_22 = 24
+number_22 = 23
 
 abbrev pub number_23 : ℕ
-number_23 = 25
+number_23 = 24
 
 abbrev pub number_24 : ℕ
-number_24 = 26
+number_24 = 25
 
 abbrev pub number_25 : ℕ
-number_25 = 27
+number_25 = 26
 
 abbrev pub number_26 : ℕ
-number_26 = 28
+number_26 = 27
 
 abbrev pub number_27 : ℕ
-number_27 = 29
+number_27 = 28
 
 abbrev pub number_28 : ℕ
-number_28 = 30
+number_28 = 29
 
 abbrev pub number_29 : ℕ
-number_29 = 31
+number_29 = 30
 
 abbrev pub number_30 : ℕ
-number_30 = 32
+number_30 = 31
 
 abbrev pub number_31 : ℕ
-number_31 = 33
+number_31 = 32
 
 abbrev pub number_32 : ℕ
-number_32 = 34
+number_32 = 33
 
 abbrev pub number_33 : ℕ
-number_33 = 35
+number_33 = 34
 
 abbrev pub number_34 : ℕ
-number_34 = 36
+number_34 = 35
 
 abbrev pub number_35 : ℕ
-number_35 = 37
+number_35 = 36
 
 abbrev pub number_36 : ℕ
-number_36 = 38
+number_36 = 37
 
 abbrev pub number_37 : ℕ
-number_37 = 39
+number_37 = 38
 
 abbrev pub number_38 : ℕ
-number_38 = 40
+number_38 = 39
 
 abbrev pub number_4000 : ℕ
-number_4000 = 41
+number_4000 = 40
 
 abbrev pub above : ℕ
-above = 42
+above = 41
 
 abbrev pub fraction : ℕ
-fraction = 43
+fraction = 42
 
 abbrev pub digit_text : ℕ
-digit_text = 44
+digit_text = 43
 
 abbrev pub other_text : ℕ
-other_text = 45
+other_text = 44
 
 abbrev pub identifier : ℕ
-identifier = 46
+identifier = 45
+
+abbrev pub FALSE : ℕ
+FALSE = 46
 
 abbrev pub left_parenthesis : ℕ
 left_parenthesis = 47

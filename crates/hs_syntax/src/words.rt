@@ -1,21 +1,21 @@
 // The words and symbols of the grammar and the classes of tokens, made by grammar/make_table.py.
 
 /// A whole number from 0 to 38 is of this class and as many behind it.
-pub const SMALL: u8 = 2;
+pub const SMALL: u8 = 1;
 /// A whole number from 39 to 4,000.
-pub const MIDDLE: u8 = 41;
+pub const MIDDLE: u8 = 40;
 /// No class: no rule takes it.
 pub const NOTHING: u8 = 255;
 /// A whole number above 4,000.
-pub const ABOVE: u8 = 42;
+pub const ABOVE: u8 = 41;
 /// A number with a point.
-pub const FRACTION: u8 = 43;
+pub const FRACTION: u8 = 42;
 /// A text of 1 to 18 digits.
-pub const DIGIT_TEXT: u8 = 44;
+pub const DIGIT_TEXT: u8 = 43;
 /// Any other text.
-pub const OTHER_TEXT: u8 = 45;
+pub const OTHER_TEXT: u8 = 44;
 /// A quoted name, or a word that is none of WORDS.
-pub const IDENTIFIER: u8 = 46;
+pub const IDENTIFIER: u8 = 45;
 
 /// The symbols and their classes.
 pub const SIGNS: [(&[u8], u8); 17] = [
@@ -92,7 +92,7 @@ pub const WORDS: [(&[u8], u8); 141] = [
     (b"EXCEPT", 124),
     (b"EXISTS", 125),
     (b"EXTRACT", 126),
-    (b"FALSE", 1),
+    (b"FALSE", 46),
     (b"FILES", 73),
     (b"FLOAT", 200),
     (b"FOR", 127),
@@ -185,7 +185,7 @@ pub const WORDS: [(&[u8], u8); 141] = [
 
 /// The classes of the words that may be names, and IDENTIFIER.
 pub const NAMES: [u8; 25] = [
-    46, 64, 65, 66, 67, 68, 69, 70, 71, 72, 73, 74, 75, 76, 77, 78, 79, 80, 81, 82, 83, 84, 85, 86,
+    45, 64, 65, 66, 67, 68, 69, 70, 71, 72, 73, 74, 75, 76, 77, 78, 79, 80, 81, 82, 83, 84, 85, 86,
     87,
 ];
 
