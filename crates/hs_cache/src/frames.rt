@@ -1,5 +1,5 @@
 // Frames of pages.
-ghost use Rattle.std.specs.Prelude.{◌≡◌, ◌∷◌, [], ℕ, ◌+◌, ◌-◌, ◌<◌, ◌≤◌, ◌↔◌, IsTrue, is_some, is_none, true, false, length, map, take, nat_eq, Some, None, option_copied, option_map, IfOk, OnOk, OnErr};
+ghost use Rattle.std.specs.Prelude.{◌≡◌, ◌∷◌, [], ℕ, ◌+◌, ◌-◌, ◌<◌, ◌≤◌, ◌↔◌, IsTrue, is_some, is_none, true, false, length, map, take, nat_eq, nat_le, Some, None, option_copied, option_map, IfOk, OnOk, OnErr};
 ghost use Rattle.std.specs.List.{IsDistinct};
 ghost use Rattle.std.specs.Map.{keys_of};
 ghost use Rattle.lru.specs.LruCache.{promoted, last_entry};
@@ -78,6 +78,20 @@ impl Frames {
         ensures distinct { IsDistinct nat_eq (keys_of self.now.pages) }
     {
         self.cache.len()
+    }
+
+    /// Whether each frame has a page, so that none can be added.
+    pub fn is_full(&self) -> bool
+        ensures { result ≡ nat_le self.now.limit (length self.now.pages) }
+    {
+        self.cache.len() >= self.cache.cap().get()
+    }
+
+    /// Whether page p is held. The order of use stays.
+    pub fn holds(&self, p: PageNo) -> bool
+        ensures { result ≡ is_some (frame_of p.0 self.now.pages) }
+    {
+        self.cache.contains(&p.0)
     }
 
     /// Whether page p is held, which is then the most recently used.
