@@ -1,9 +1,10 @@
 // Files written by hand, and what no clause says: that the calls succeed where memory is there.
 ghost use Rattle.std.specs.Prelude.{◌≤◌, IfOk};
-ghost use Rattle.hs_host.specs.Files.{IsOpen, IsHonest};
+ghost use Rattle.hs_host.specs.Files.{IsOpen};
+ghost use Rattle.hs_host.specs.Used.{Told};
 ghost use Rattle.hs_gate.specs.Gated.{IsFront};
 
-use hs_gate::{GateFault, Gated, Part};
+use hs_gate::{Batch, GateFault, Gated, Part};
 use hs_host::{FileKind, Host};
 use hs_memhost::{CallList, Images, MemHost};
 use hs_values::Bytes;
@@ -137,7 +138,7 @@ fn two_parts<H: Host>(
 ) -> Result<Option<(Part, Part)>, GateFault>
     requires opened { IsOpen (H.standing host.old) }
     requires long { 10 ≤ gated.now.end }
-    requires front { H.tells → IsHonest (H.standing host.old) → IsFront (H.files host.old) gated.now }
+    requires front { Told H.Source H.Host.own host.old → IsFront (H.files host.old) gated.now }
 {
     let Some(first) = gated.part(alloc, host, 10)? else {
         return Ok(None);
@@ -200,19 +201,32 @@ fn reads_parts(rt: HostRuntime) -> Result<(), Fail> {
     Ok(())
 }
 
+// Brings an open file to the disk, and starts it anew with epoch 258.
+#[tactic(auto, using(crate::proofs::Ready::settled_ready))]
+fn start_anew<H: Host>(
+    alloc: Global,
+    host: &mut H,
+    file: FileKind,
+) -> Result<Option<Gated>, GateFault>
+    requires { IsOpen (H.standing host.old) }
+{
+    let Some(gated) = Gated::read(alloc, host, file)? else {
+        return Ok(None);
+    };
+    gated.settle(host)?;
+    Ok(Some(Gated::start(host, gated.file, 258)?))
+}
+
 #[test]
 fn starts_anew(rt: HostRuntime) -> Result<(), Fail> {
     let alloc = rt.alloc();
     let mut host = opened(alloc, SMALL.to_vec(alloc)?, CallList::new(alloc))?;
-    let length = host.len(FileKind::Log)?;
-    if length >= 2 {
-        Gated::start(&mut host, FileKind::Log, 258)?;
-    }
+    assert!(rt; start_anew(alloc, &mut host, FileKind::Log)?.is_some());
     assert_eq!(rt;
         host.image(FileKind::Log),
         b"\x01\x01\0\0\0\0\0\0\x01\x02\0".as_slice()
     );
-    assert_eq!(rt; host.calls(), 10);
+    assert_eq!(rt; host.calls(), 13);
     Ok(())
 }
 

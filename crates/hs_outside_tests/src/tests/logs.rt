@@ -1,7 +1,7 @@
 // A commit in the log of a database in memory.
-use hs_log::log_commit;
 use hs_gate::Gated;
 use hs_host::{FileKind, Host};
+use hs_log::log_commit;
 use hs_memhost::{CallList, Images, MemHost};
 use hs_values::Bytes;
 use std::test::Fail;
