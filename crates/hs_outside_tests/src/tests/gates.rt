@@ -202,7 +202,6 @@ fn reads_parts(rt: HostRuntime) -> Result<(), Fail> {
 }
 
 // Brings an open file to the disk, and starts it anew with epoch 258.
-#[tactic(auto, using(crate::proofs::Ready::settled_ready))]
 fn start_anew<H: Host>(
     alloc: Global,
     host: &mut H,
@@ -251,6 +250,41 @@ fn each_call_of_an_append_may_fail(rt: HostRuntime) -> Result<(), Fail> {
     }
     for call in 6..12 {
         append_fails(&rt, rt.alloc(), &[65; 300], call)?;
+    }
+    Ok(())
+}
+
+// A new file, to which three groups are added at once with this call failing: how many it has when it is read again.
+fn groups_after(alloc: Global, long: &[u8], call: u64) -> Result<u64, Fail> {
+    let failing = CallList::from_vec([call].to_vec(alloc)?);
+    let mut host = opened(alloc, Vec::new(alloc), failing)?;
+    let mut log = Gated::create(&mut host, FileKind::Log)?;
+    let mut batch = Batch::new(alloc);
+    batch.push(b"a")?;
+    batch.push(b"")?;
+    batch.push(long)?;
+    if !batch.is_empty() && log.append_all(&mut host, &batch).is_ok() {
+        return Ok(log.groups);
+    }
+    match Gated::read(alloc, &mut host, FileKind::Log)? {
+        Some(again) => Ok(again.groups),
+        None => Err("closed")?,
+    }
+}
+
+// The groups are written and synced, and then their gate is opened and synced.
+#[test]
+fn three_groups_are_added_or_none(rt: HostRuntime) -> Result<(), Fail> {
+    let alloc = rt.alloc();
+    for (call, expected) in [(6, 0), (7, 0), (8, 0), (9, 3), (99, 3)] {
+        assert_eq!(rt; groups_after(alloc, b"bc", call)?, expected, "call {call}");
+    }
+    for (call, expected) in [(6, 0), (8, 0), (9, 0), (10, 0), (11, 3), (99, 3)] {
+        assert_eq!(rt;
+            groups_after(alloc, &[65; 300], call)?,
+            expected,
+            "call {call}"
+        );
     }
     Ok(())
 }
