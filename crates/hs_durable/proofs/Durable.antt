@@ -14,7 +14,7 @@ use Rattle.hs_gate.specs.Crash.{IsAsBefore}
 use Rattle.hs_gate.proofs.Torn.{as_before}
 use Rattle.hs_log.specs.Log.{IsLogOf, IsLog, HasNoneOrAll, texts_of}
 use Rattle.hs_log.proofs.Logs.{log_of, same_log}
-use Rattle.hs_durable.specs.Durable.{Point, StandFor, AreLeft, Means, IsSafe, IsServed, IsCommitting, Survives, and_logged}
+use Rattle.hs_durable.specs.Durable.{Point, StandFor, LeavesNoOther, Means, IsSafe, IsServed, IsCommitting, Survives, and_logged}
 
 -- whatever a crash leaves of the log is a log of the same texts
 pub log_left : (h : History) (files : Five (List ℕ)) (log : Gated) (left : List ℕ) → IsLog h files log → Leaves (disk_of h.now Log) left → IsLogOf log.epoch (texts_of files.log) left
@@ -40,17 +40,30 @@ pub safe_weaker : (M N : Point → Type 0) (m : Moment) → IsSafe M m → ((q :
 safe_weaker M N m safe f left leaves = let means = safe left leaves in record { point = means.point; stand = means.stand; is = f means.point means.is }
 
 -- the same disks leave the same files
-same_disks : (M : Point → Type 0) (a m : Moment) → m.disks ≡ a.disks → IsSafe M a → IsSafe M m
-same_disks M a m is safe left leaves = safe left (λ file. subst (λ (d : Five Pending). Leaves (of d file) (of left file)) is (leaves file))
+same_disks : (a m : Moment) → m.disks ≡ a.disks → LeavesNoOther a m
+same_disks a m is left leaves file = subst (λ (d : Five Pending). Leaves (of d file) (of left file)) is (leaves file)
+
+pub still_left : (a b : History) → Since (IsStill a.now) a b → Since (LeavesNoOther a.now) a b
+still_left a b ab = since_weaker ab (λ m is. same_disks a.now m (ap (λ (k : Moment). k.disks) is))
+
+pub told_left : (a b : History) (bytes : List ℕ) → Since (IsPrinted a.now bytes) a b → Since (LeavesNoOther a.now) a b
+told_left a b bytes ab = since_weaker ab (λ m t. same_disks a.now m (ap (λ (k : Moment). k.disks) t.is))
+
+pub read_left : (a b : History) → Since (IsReading a.now) a b → Since (LeavesNoOther a.now) a b
+read_left a b ab = since_weaker ab (λ m r. same_disks a.now m (ap (λ (k : Moment). k.disks) r.is))
+
+-- what is safe stays so where no other files are left
+pub safe_on : (M : Point → Type 0) (a m : Moment) → LeavesNoOther a m → IsSafe M a → IsSafe M m
+safe_on M a m fewer safe left leaves = safe left (fewer left leaves)
 
 pub still_safe : (M : Point → Type 0) (a b : History) → IsSafe M a.now → Since (IsStill a.now) a b → Since (IsSafe M) a b
-still_safe M a b safe ab = since_weaker ab (λ m is. same_disks M a.now m (ap (λ (k : Moment). k.disks) is) safe)
+still_safe M a b safe ab = since_weaker (still_left a b ab) (λ m fewer. safe_on M a.now m fewer safe)
 
 pub told_safe : (M : Point → Type 0) (a b : History) (bytes : List ℕ) → IsSafe M a.now → Since (IsPrinted a.now bytes) a b → Since (IsSafe M) a b
-told_safe M a b bytes safe ab = since_weaker ab (λ m t. same_disks M a.now m (ap (λ (k : Moment). k.disks) t.is) safe)
+told_safe M a b bytes safe ab = since_weaker (told_left a b bytes ab) (λ m fewer. safe_on M a.now m fewer safe)
 
 pub read_safe : (M : Point → Type 0) (a b : History) → IsSafe M a.now → Since (IsReading a.now) a b → Since (IsSafe M) a b
-read_safe M a b safe ab = since_weaker ab (λ m r. same_disks M a.now m (ap (λ (k : Moment). k.disks) r.is) safe)
+read_safe M a b safe ab = since_weaker (read_left a b ab) (λ m fewer. safe_on M a.now m fewer safe)
 
 pub served_on : (p : Point) (held : Gated) (a b : History) (files : Five (List ℕ)) → IsServed p held a files → b.now.disks ≡ a.now.disks → IsServed p held b files
 served_on p held a b files served is = record {

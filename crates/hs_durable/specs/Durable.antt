@@ -31,6 +31,10 @@ pub record StandFor (p : Point) (files : Five (List ℕ)) : Type 0 where
 abbrev pub AreLeft : Moment → Five (List ℕ) → Type 0
 AreLeft m files = (file : FileKind) → Leaves (disk_of m file) (of files file)
 
+-- A crash at a moment leaves no files that it might not have left at one before.
+abbrev pub LeavesNoOther : Moment → Moment → Type 0
+LeavesNoOther before m = (files : Five (List ℕ)) → AreLeft m files → AreLeft before files
+
 -- These files stand for something with this meaning.
 pub record Means (meaning : Point → Type 0) (files : Five (List ℕ)) : Type 0 where
   pub point : Point

@@ -2,23 +2,22 @@
 ghost use Rattle.std.specs.Prelude.{◌≡◌, ◌⊎◌, ℕ, ◌+◌, ◌≤◌, List, [], ◌++◌, length, take, drop};
 ghost use Rattle.hs_host.specs.declared.file_kind.FileKind.TheVariants.{Log};
 ghost use Rattle.hs_host.specs.Files.{Five};
-ghost use Rattle.hs_host.specs.Moments.{Moment, History, Since, OneFile, IsStill, IsPrinted, IsReading};
+ghost use Rattle.hs_host.specs.Moments.{History, Since, OneFile, IsStill, IsPrinted, IsReading};
 ghost use Rattle.hs_gate.specs.declared.gated.Gated.{Gated};
 ghost use Rattle.hs_gate.specs.Crash.{IsAsBefore};
 ghost use Rattle.hs_log.specs.Log.{IsLog, HasNoneOrAll, texts_of};
-ghost use Rattle.hs_durable.specs.Durable.{Point, IsSafe, IsServed, IsCommitting, Survives, and_logged};
+ghost use Rattle.hs_durable.specs.Durable.{Point, LeavesNoOther, IsSafe, IsServed, IsCommitting, Survives, and_logged};
 
 /// Files that are served survive a crash as what they stand for, whatever else that means.
 pub fn served_files_survive()
-    ensures safe { (p : Point) (held : Gated) (h : History) (files : Five (List ℕ)) → IsServed p held h files → IsSafe (λ q. q ≡ p) h.now }
-    ensures weaker { (M N : Point → Type 0) (m : Moment) → IsSafe M m → ((q : Point) → M q → N q) → IsSafe N m }
+    ensures { (p : Point) (held : Gated) (h : History) (files : Five (List ℕ)) → IsServed p held h files → IsSafe (λ q. q ≡ p) h.now }
 {}
 
 /// Calls that read files or input, or hand over output, change nothing of what a crash leaves of the files.
 pub fn nothing_changes()
-    ensures reads { (M : Point → Type 0) (a b : History) → IsSafe M a.now → Since (IsStill a.now) a b → Since (IsSafe M) a b }
-    ensures tells { (M : Point → Type 0) (a b : History) (bytes : List ℕ) → IsSafe M a.now → Since (IsPrinted a.now bytes) a b → Since (IsSafe M) a b }
-    ensures asks { (M : Point → Type 0) (a b : History) → IsSafe M a.now → Since (IsReading a.now) a b → Since (IsSafe M) a b }
+    ensures reads { (a b : History) → Since (IsStill a.now) a b → Since (LeavesNoOther a.now) a b }
+    ensures tells { (a b : History) (bytes : List ℕ) → Since (IsPrinted a.now bytes) a b → Since (LeavesNoOther a.now) a b }
+    ensures asks { (a b : History) → Since (IsReading a.now) a b → Since (LeavesNoOther a.now) a b }
     ensures served { (p : Point) (held : Gated) (a b : History) (files : Five (List ℕ)) → IsServed p held a files → b.now.disks ≡ a.now.disks → IsServed p held b files }
 {}
 
