@@ -12,8 +12,8 @@ pub enum Refusal {
     Sessions,
     /// It is no statement of the program, a row of another length than its table's, or a table too many.
     NotBuilt,
-    /// A table or a column of this name is there.
-    Exists(Name),
     /// No table of this name is there.
     NoSuch(Name),
+    /// A table or a column of this name is there.
+    Exists(Name),
 }
