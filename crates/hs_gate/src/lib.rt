@@ -26,6 +26,6 @@ mod writing;
 pub use batch::Batch;
 pub use gate_fault::GateFault;
 pub use gated::{Front, Gated};
-pub use laws::groups_are_spelled;
+pub use laws::{groups_are_added_one_by_one, groups_are_spelled, rewritten_files_are_read};
 pub use part::Part;
 pub use start::rewrite;

@@ -84,8 +84,8 @@ told_on before mid m piece rest bytes is whole t = record {
   piece = piece ++ t.piece;
   rest = t.rest;
   is =
-    t.is ∙ ap (λ (k : Moment). record k { out = k.out ++ t.piece; call = told }) is
-    ∙ ap (λ (l : List ℕ). record before { out = l; call = told }) (append_assoc before.out piece t.piece);
+      t.is ∙ ap (λ (k : Moment). record k { out = k.out ++ t.piece; call = told }) is
+      ∙ ap (λ (l : List ℕ). record before { out = l; call = told }) (append_assoc before.out piece t.piece);
   whole = append_assoc piece t.piece t.rest ∙ ap (λ (l : List ℕ). piece ++ l) t.whole ∙ whole;
 }
 
@@ -103,8 +103,8 @@ reading_from before mid m read is r = record {
   given = read ++ r.given;
   bytes = r.bytes;
   is =
-    r.is ∙ ap (λ (k : Moment). record k { taken = k.taken ++ r.given ++ r.bytes; call = asked (k.taken ++ r.given) }) is
-    ∙ ap (λ (l : List ℕ). record before { taken = l ++ r.bytes; call = asked l }) (append_assoc before.taken read r.given);
+      r.is ∙ ap (λ (k : Moment). record k { taken = k.taken ++ r.given ++ r.bytes; call = asked (k.taken ++ r.given) }) is
+      ∙ ap (λ (l : List ℕ). record before { taken = l ++ r.bytes; call = asked l }) (append_assoc before.taken read r.given);
 }
 
 -- what was taken, whatever the last call was

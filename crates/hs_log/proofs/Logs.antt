@@ -33,13 +33,13 @@ log_of h files log is =
     }
 
 -- with the same header and groups it is the same
-same_log : (epoch : ℕ) (texts : List (List ℕ)) (old left : List ℕ) → IsLogOf epoch texts old → HasSameHeader old left → groups_of left ≡ groups_of old → IsLogOf epoch texts left
+pub same_log : (epoch : ℕ) (texts : List (List ℕ)) (old left : List ℕ) → IsLogOf epoch texts old → HasSameHeader old left → groups_of left ≡ groups_of old → IsLogOf epoch texts left
 same_log epoch texts old left log header groups = record {
   born = header.birth ∙ log.born;
   groups = record { opened = header.gate ∙ log.groups.opened; epoch_is = header.epoch ∙ log.groups.epoch_is; groups = groups ∙ log.groups.groups };
 }
 
-more_log : (epoch : ℕ) (texts more : List (List ℕ)) (old left : List ℕ) → IsLogOf epoch texts old → HasSameHeader old left → groups_of left ≡ and_groups more (groups_of old) → IsLogOf epoch (texts ++ more) left
+pub more_log : (epoch : ℕ) (texts more : List (List ℕ)) (old left : List ℕ) → IsLogOf epoch texts old → HasSameHeader old left → groups_of left ≡ and_groups more (groups_of old) → IsLogOf epoch (texts ++ more) left
 more_log epoch texts more old left log header groups = record {
   born = header.birth ∙ log.born;
   groups = record { opened = header.gate ∙ log.groups.opened; epoch_is = header.epoch ∙ log.groups.epoch_is; groups = groups ∙ ap (λ (g : Groups). and_groups more g) log.groups.groups };

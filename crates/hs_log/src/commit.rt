@@ -39,7 +39,11 @@ pub fn log_commit<H: Host>(journal: &mut Gated, host: &mut H, line: &Bytes) -> R
 ///
 /// After an `Err` the log is unchanged, and its file is to be read again. `Disk` comes only where a call of
 /// the host failed. `NoMemory` is handed on from the host, and comes where the places don't fit in 64 bits.
-pub fn log_commits<H: Host>(journal: &mut Gated, host: &mut H, lines: &Batch) -> Result<(), GateFault>
+pub fn log_commits<H: Host>(
+    journal: &mut Gated,
+    host: &mut H,
+    lines: &Batch,
+) -> Result<(), GateFault>
     requires opened { IsOpen (H.standing host.old) }
     requires some { 0 < length lines.now }
     requires log { Told H.Source H.Host.own host.old → IsLog (H.history host.old) (H.files host.old) journal.old }

@@ -3,19 +3,15 @@ ghost use Rattle.std.specs.Prelude.{◌+◌, ◌^◌, ◌≤◌, length, OnOk};
 
 use crate::reason::{Failure, Place};
 use hs_host::FileKind;
-use libc::types::rlimit;
 use std::alloc::{AllocError, Global};
 use std::fs::{File, OpenOptions, TryLockError, metadata, symlink_metadata};
 use std::io;
-use std::io::ErrorKind;
+use std::io::{ErrorKind, Read};
 use std::os::unix::fs::FileExt;
 use std::rt::Files;
 
 // The greatest length of a file.
 const MOST_BYTES: u64 = 1 << 62;
-
-// What getrlimit is asked for the greatest length of a file.
-const RLIMIT_FSIZE: i32 = 1;
 
 /// Why the files of a database were not opened.
 #[derive(Clone, Copy)]
@@ -76,7 +72,7 @@ impl DatabaseFiles {
             log,
             data_file: open_file(alloc, rt, name, FileKind::Data)?,
             backup: open_file(alloc, rt, name, FileKind::Backup)?,
-            most_bytes: most_bytes(),
+            most_bytes: most_bytes(rt),
         };
         // The entries of files that were made are to be found after a crash.
         match open_folder(rt, folder)?.sync_all() {
@@ -129,17 +125,38 @@ impl DatabaseFiles {
 
 // The greatest length of a file: 2^62, or what the process is allowed (`ulimit -f`). A write beyond the latter would end
 // the process by a signal.
-fn most_bytes() -> u64
+fn most_bytes<R: Files<File = File>>(rt: &R) -> u64
     ensures { result ≤ 2 ^ 62 }
 {
-    let mut limit = rlimit {
-        rlim_cur: MOST_BYTES,
-        rlim_max: MOST_BYTES,
-    };
-    if libc::getrlimit(RLIMIT_FSIZE, &mut limit) != 0 {
+    let mut text = [0; 4096];
+    let Ok(mut limits) = File::open(rt, "/proc/self/limits") else {
         return MOST_BYTES;
+    };
+    let Ok(count) = limits.read(&mut text) else {
+        return MOST_BYTES;
+    };
+    allowed_by(&text[..count]).min(MOST_BYTES)
+}
+
+/// How long a file may be by what Linux tells of the limits of a process. Where no number is told, any length.
+pub fn allowed_by(limits: &[u8]) -> u64 {
+    let Ok(text) = std::str::from_utf8(limits) else {
+        return u64::MAX;
+    };
+    for line in text.lines() {
+        if let Some(limit) = line.strip_prefix("Max file size") {
+            return first_number(limit);
+        }
     }
-    limit.rlim_cur.min(MOST_BYTES)
+    u64::MAX
+}
+
+// The number with which this begins behind white space, and the greatest one where there is none.
+fn first_number(text: &str) -> u64 {
+    match text.split_whitespace().next() {
+        Some(word) => word.parse().unwrap_or(u64::MAX),
+        None => u64::MAX,
+    }
 }
 
 fn failed(place: Place, error: io::Error) -> OpenFault {

@@ -3,6 +3,7 @@
 ghost use Rattle.std.specs.Prelude.{◌≡◌};
 ghost use Rattle.hs_host.specs.Files.{IsOpen};
 
+use crate::database_files::allowed_by;
 use crate::{FileHost, Reason};
 use hs_host::{FileKind, Host, HostFault, MountFault, Source};
 use std::alloc::{AllocError, Global};
@@ -268,6 +269,18 @@ fn a_failing_call_has_its_reason(rt: HostRuntime) -> Result<(), Fail> {
     assert!(rt; host.input_reason().is_none() && host.output_reason().is_none());
     fs::remove_dir_all(&rt, folder.as_str())?;
     Ok(())
+}
+
+#[test]
+fn limits_are_read(rt: HostRuntime) {
+    let told = b"Limit                     Soft Limit           Hard Limit           Units\n\
+        Max cpu time              unlimited            unlimited            seconds\n\
+        Max file size             65536                unlimited            bytes\n";
+    assert_eq!(rt; allowed_by(told), 65_536);
+    let none = b"Max file size             unlimited            unlimited            bytes\n";
+    assert_eq!(rt; allowed_by(none), u64::MAX);
+    assert_eq!(rt; allowed_by(b"Max file size"), u64::MAX);
+    assert_eq!(rt; allowed_by(b""), u64::MAX);
 }
 
 #[test]

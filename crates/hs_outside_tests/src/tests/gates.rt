@@ -1,9 +1,10 @@
 // Files written by hand, and what no clause says: that the calls succeed where memory is there.
 ghost use Rattle.std.specs.Prelude.{◌≤◌, IfOk};
-ghost use Rattle.hs_host.specs.Files.{IsOpen, IsHonest};
+ghost use Rattle.hs_host.specs.Files.{IsOpen};
+ghost use Rattle.hs_host.specs.Used.{Told};
 ghost use Rattle.hs_gate.specs.Gated.{IsFront};
 
-use hs_gate::{GateFault, Gated, Part};
+use hs_gate::{Batch, GateFault, Gated, Part};
 use hs_host::{FileKind, Host};
 use hs_memhost::{CallList, Images, MemHost};
 use hs_values::Bytes;
@@ -137,7 +138,7 @@ fn two_parts<H: Host>(
 ) -> Result<Option<(Part, Part)>, GateFault>
     requires opened { IsOpen (H.standing host.old) }
     requires long { 10 ≤ gated.now.end }
-    requires front { H.tells → IsHonest (H.standing host.old) → IsFront (H.files host.old) gated.now }
+    requires front { Told H.Source H.Host.own host.old → IsFront (H.files host.old) gated.now }
 {
     let Some(first) = gated.part(alloc, host, 10)? else {
         return Ok(None);
@@ -200,19 +201,31 @@ fn reads_parts(rt: HostRuntime) -> Result<(), Fail> {
     Ok(())
 }
 
+// Brings an open file to the disk, and starts it anew with epoch 258.
+fn start_anew<H: Host>(
+    alloc: Global,
+    host: &mut H,
+    file: FileKind,
+) -> Result<Option<Gated>, GateFault>
+    requires { IsOpen (H.standing host.old) }
+{
+    let Some(gated) = Gated::read(alloc, host, file)? else {
+        return Ok(None);
+    };
+    gated.settle(host)?;
+    Ok(Some(Gated::start(host, gated.file, 258)?))
+}
+
 #[test]
 fn starts_anew(rt: HostRuntime) -> Result<(), Fail> {
     let alloc = rt.alloc();
     let mut host = opened(alloc, SMALL.to_vec(alloc)?, CallList::new(alloc))?;
-    let length = host.len(FileKind::Log)?;
-    if length >= 2 {
-        Gated::start(&mut host, FileKind::Log, 258)?;
-    }
+    assert!(rt; start_anew(alloc, &mut host, FileKind::Log)?.is_some());
     assert_eq!(rt;
         host.image(FileKind::Log),
         b"\x01\x01\0\0\0\0\0\0\x01\x02\0".as_slice()
     );
-    assert_eq!(rt; host.calls(), 10);
+    assert_eq!(rt; host.calls(), 13);
     Ok(())
 }
 
@@ -237,6 +250,41 @@ fn each_call_of_an_append_may_fail(rt: HostRuntime) -> Result<(), Fail> {
     }
     for call in 6..12 {
         append_fails(&rt, rt.alloc(), &[65; 300], call)?;
+    }
+    Ok(())
+}
+
+// A new file, to which three groups are added at once with this call failing: how many it has when it is read again.
+fn groups_after(alloc: Global, long: &[u8], call: u64) -> Result<u64, Fail> {
+    let failing = CallList::from_vec([call].to_vec(alloc)?);
+    let mut host = opened(alloc, Vec::new(alloc), failing)?;
+    let mut log = Gated::create(&mut host, FileKind::Log)?;
+    let mut batch = Batch::new(alloc);
+    batch.push(b"a")?;
+    batch.push(b"")?;
+    batch.push(long)?;
+    if !batch.is_empty() && log.append_all(&mut host, &batch).is_ok() {
+        return Ok(log.groups);
+    }
+    match Gated::read(alloc, &mut host, FileKind::Log)? {
+        Some(again) => Ok(again.groups),
+        None => Err("closed")?,
+    }
+}
+
+// The groups are written and synced, and then their gate is opened and synced.
+#[test]
+fn three_groups_are_added_or_none(rt: HostRuntime) -> Result<(), Fail> {
+    let alloc = rt.alloc();
+    for (call, expected) in [(6, 0), (7, 0), (8, 0), (9, 3), (99, 3)] {
+        assert_eq!(rt; groups_after(alloc, b"bc", call)?, expected, "call {call}");
+    }
+    for (call, expected) in [(6, 0), (8, 0), (9, 0), (10, 0), (11, 3), (99, 3)] {
+        assert_eq!(rt;
+            groups_after(alloc, &[65; 300], call)?,
+            expected,
+            "call {call}"
+        );
     }
     Ok(())
 }

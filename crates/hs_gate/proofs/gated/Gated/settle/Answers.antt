@@ -51,9 +51,10 @@ pub returns-clause-same : goal.returns-clause-same
 returns-clause-same g c = λ told.
     let n = c.args.self.now.end + 1 in
     let old = of (g.H.Host.files c.args.host.now) c.args.self.now.file in
-    as_before _ c.args.self.now _ (c.requires.gated told)
-    (ap (λ (l : List ℕ). take n l) (returns-clause-bytes g c told) ∙ take-take n n old (omega arith),
-    let rest = (cut_gated _ _ c.args.self.now (c.requires.gated told) (returns-clause-bytes g c told)).1 in omega (arith, rest.last))
+    as_before _ c.args.self.now _ (c.requires.gated told) (
+      ap (λ (l : List ℕ). take n l) (returns-clause-bytes g c told) ∙ take-take n n old (omega arith),
+      let rest = (cut_gated _ _ c.args.self.now (c.requires.gated told) (returns-clause-bytes g c told)).1 in omega (arith, rest.last),
+    )
 
 pub returns-clause-at_rest : goal.returns-clause-at_rest
 returns-clause-at_rest g c = λ told. (cut_gated _ _ c.args.self.now (c.requires.gated told) (returns-clause-bytes g c told)).1
