@@ -78,7 +78,6 @@ FunctionAfter x = LeavesAreLawful x.0 × ExpressionsAreLawful x.1
 abbrev QueryAfter : Leaves × Expressions × Queries → Type 0
 QueryAfter x = LeavesAreLawful x.0 × ExpressionsAreLawful x.1 × QueriesAreLawful x.2
 
-
 leaf_kept : (text : List ℕ) (token : Token) (here : ℕ) (m : LeafMark) (l : Leaves) → LeafFits text token m l → LeavesAreLawful l → Then LeafAfter (leaf_step text token here m l)
 leaf_kept text token here leaf.Place l fits h_leaves = record { names = h_leaves.names; name_lists = h_leaves.name_lists; aliases = h_leaves.aliases; numbers = h_leaves.numbers; literals = h_leaves.literals; types = h_leaves.types }
 leaf_kept text token here leaf.Here l fits h_leaves = record { names = h_leaves.names; name_lists = h_leaves.name_lists; aliases = h_leaves.aliases; numbers = h_leaves.numbers; literals = h_leaves.literals; types = h_leaves.types }

@@ -439,9 +439,9 @@ module _ (text : List ℕ) (tokens : List Token) where
 
   there : (all : List Token) (n : ℕ) (t : Token) (rest : List Token) → drop n all ≡ t ∷ rest → (token_at all n ≡ t) × (drop (n + 1) all ≡ rest)
   there all n t rest e = (
-      ap (λ o. unwrap_or o (token_at [] 0)) (slice_get-drop_first all n t rest e),
-      sym (drop-drop 1 n all) ∙ ap (drop 1) e,
-    )
+    ap (λ o. unwrap_or o (token_at [] 0)) (slice_get-drop_first all n t rest e),
+    sym (drop-drop 1 n all) ∙ ap (drop 1) e,
+  )
 
   -- ---- a statement's items
 
@@ -505,7 +505,7 @@ module _ (text : List ℕ) (tokens : List Token) where
       let wide = precision_of a.0 (omega (arith, n1.is, a.2)) (omega (arith, n1.is, a.2)) in
       let small = scale_within b.0 a.0 (omega (arith, n1.is, n3.is, a.2, b.2)) (omega (arith, n1.is, a.2)) in
       let is : law.is_type (type.Decimal (natural (number_in (written text t)).units) (natural (number_in (written text u)).units)) ≡ true =
-          ap (λ z. law.is_type (type.Decimal (natural z) (natural (number_in (written text u)).units))) a.1 ∙ ap (λ z. law.is_type (type.Decimal a.0 (natural z))) b.1 ∙ scaled_is a.0 b.0 wide small in
+      ap (λ z. law.is_type (type.Decimal (natural z) (natural (number_in (written text u)).units))) a.1 ∙ ap (λ z. law.is_type (type.Decimal a.0 (natural z))) b.1 ∙ scaled_is a.0 b.0 wide small in
       go p2 l2 (skip (taken + 1 + 1 + 1) m.number w n3.left) (record { token = tt; number = tt; digits = absurd; unsigned = absurd; is_scaled = λ h. is })
 
   at_mark : (o : Option Mark) (k : Known) (taken : ℕ) (w : List Item) (p : Parts) → T (may o k) → Holds k taken p → AreLawful p

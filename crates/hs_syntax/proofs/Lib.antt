@@ -7,6 +7,7 @@ pub mod Letters
 pub mod LiteralRuns
 pub mod Meant
 pub mod NameOrReserved
+pub mod OneReading
 pub mod Rewriting
 pub mod Runs
 pub mod RunsTo

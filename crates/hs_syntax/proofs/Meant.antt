@@ -117,11 +117,5 @@ fewer (body_in_parentheses {w} {v} d) = elim (fewer d) [
 ]
 fewer (query_behind_in d) = elim (fewer d) [ inl e ↦ let is = ap how_many e in inr (omega (arith, is)) | inr l ↦ inr (omega (arith, l)) ]
 
-one_way : {w v : List Item} → MeantAs w v → MeantAs v w → w ≡ v
+pub one_way : {w v : List Item} → MeantAs w v → MeantAs v w → w ≡ v
 one_way d e = elim (fewer d) [ inl i ↦ i | inr l ↦ elim (fewer e) [ inl i ↦ sym i | inr k ↦ absurd (omega (arith, l, k)) ] ]
-
-pub one_reading : HasOneReading
-one_reading = record {
-  one = λ w a b x y. one_way (y.meant a x.built) (x.meant b y.built);
-  plain = λ w reading items x h y. nothing_else (y.meant reading x) h;
-}

@@ -3,7 +3,7 @@
 use Rattle.std.specs.Prelude.{◌≡◌, ℕ, ◌⊎◌, List, [], ◌∷◌}
 use Rattle.hs_grammar.specs.declared.types.Item.{Item}
 use Rattle.hs_grammar.specs.declared.types.Item.TheVariants as item
-use Rattle.hs_syntax.specs.Literal.{IsBuiltBy}
+use Rattle.hs_syntax.specs.Literal.{IsBuiltBy, IsStatement}
 use Rattle.hs_syntax.specs.Marks.{body_subquery, bracket, bracket_body, first, in_list, query, in_query}
 use Rattle.hs_syntax.specs.Names.{right_parenthesis}
 
@@ -46,7 +46,8 @@ abbrev pub HasNoSpot : List Item → Type 0
 HasNoSpot [] = Unit {0}
 HasNoSpot (x ∷ w) = ¬ IsSpot (x ∷ w) × HasNoSpot w
 
--- tokens have one reading that is meant; and one without such a spot is it
+-- a statement's tokens have one reading that is meant, and no other; and where a reading has no such spot, it is the one
 pub record HasOneReading : Type 0 where
+  pub some : (w : List ℕ) → IsStatement w → (items : List Item) × IsMeantBy w items
   pub one : (w : List ℕ) (a b : List Item) → IsMeantBy w a → IsMeantBy w b → a ≡ b
-  pub plain : (w : List ℕ) (reading items : List Item) → IsBuiltBy w reading → HasNoSpot reading → IsMeantBy w items → reading ≡ items
+  pub plain : (w : List ℕ) (reading : List Item) → IsBuiltBy w reading → HasNoSpot reading → IsMeantBy w reading

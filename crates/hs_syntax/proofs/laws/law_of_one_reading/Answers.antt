@@ -1,4 +1,4 @@
-use Rattle.hs_syntax.proofs.Meant.{one_reading}
+use Rattle.hs_syntax.proofs.OneReading.{one_reading}
 use Rattle.hs_syntax.proofs.laws.law_of_one_reading.Goals as goal
 
 pub returns : goal.returns
