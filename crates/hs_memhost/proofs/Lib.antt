@@ -1,2 +1,3 @@
+pub mod Failing
 pub mod Overwritten
 pub mod Replayed
