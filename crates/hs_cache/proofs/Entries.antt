@@ -10,8 +10,8 @@ use Rattle.hs_cache.specs.Held.{Pages, changed}
 
 -- the first pair's place is settled by its test
 changed_step : (p : ℕ) (f : Frame → Frame) (e : ℕ × Frame) (rest : Pages) (v : Frame) (t : Bool)
-  → (if t then Some e.1 else lookup (nat_eq p) rest) ≡ Some v → (lookup (nat_eq p) rest ≡ Some v → set_value (nat_eq p) rest (f v) ≡ changed p f rest)
-  → (if t then (e.0, f v) ∷ rest else e ∷ set_value (nat_eq p) rest (f v)) ≡ (if t then (e.0, f e.1) ∷ rest else e ∷ changed p f rest)
+    → (if t then Some e.1 else lookup (nat_eq p) rest) ≡ Some v → (lookup (nat_eq p) rest ≡ Some v → set_value (nat_eq p) rest (f v) ≡ changed p f rest)
+    → (if t then (e.0, f v) ∷ rest else e ∷ set_value (nat_eq p) rest (f v)) ≡ (if t then (e.0, f e.1) ∷ rest else e ∷ changed p f rest)
 changed_step p f e rest v true found behind = let same : e.1 ≡ v = (cc) in ap (λ (x : Frame). (e.0, f x) ∷ rest) (sym same)
 changed_step p f e rest v false found behind = ap (λ (l : Pages). e ∷ l) (behind found)
 
@@ -21,7 +21,7 @@ changed_is p f [] v found = (cc)
 changed_is p f (e ∷ rest) v found = changed_step p f e rest v (nat_eq p e.0) found (changed_is p f rest v)
 
 absent_step : (p : ℕ) (f : Frame → Frame) (e : ℕ × Frame) (rest : Pages) (t : Bool)
-  → (if t then Some e.1 else lookup (nat_eq p) rest) ≡ None → (lookup (nat_eq p) rest ≡ None → rest ≡ changed p f rest) → (e ∷ rest) ≡ (if t then (e.0, f e.1) ∷ rest else e ∷ changed p f rest)
+    → (if t then Some e.1 else lookup (nat_eq p) rest) ≡ None → (lookup (nat_eq p) rest ≡ None → rest ≡ changed p f rest) → (e ∷ rest) ≡ (if t then (e.0, f e.1) ∷ rest else e ∷ changed p f rest)
 absent_step p f e rest true found behind = (cc)
 absent_step p f e rest false found behind = ap (λ (l : Pages). e ∷ l) (behind found)
 

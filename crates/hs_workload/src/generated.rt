@@ -9,6 +9,7 @@ use std::alloc::{AllocError, Global};
 
 // At least the bytes in front of the entries, and those of the longest entry.
 const HEAD_BYTES: usize = 4096;
+
 const ENTRY_BYTES: usize = 48;
 
 // The number that follows x.
@@ -78,8 +79,13 @@ fn push_entries(out: &mut Bytes, n: u32) -> Result<(), AllocError>
 pub fn text(alloc: Global, n: u32) -> Result<Bytes, NoMemory>
     ensures { IfOk result (λ text. text ≡ generated n) }
 {
-    let mut out = Bytes::from_vec(Vec::with_capacity(alloc, HEAD_BYTES + ENTRY_BYTES * n as usize)?);
-    out.extend(b"s0: CREATE CACHED TABLE W (ID INTEGER PRIMARY KEY, V INTEGER);\ns0: SET DATABASE TRANSACTION CONTROL MVCC;\n")?;
+    let mut out = Bytes::from_vec(Vec::with_capacity(
+        alloc,
+        HEAD_BYTES + ENTRY_BYTES * n as usize,
+    )?);
+    out.extend(
+        b"s0: CREATE CACHED TABLE W (ID INTEGER PRIMARY KEY, V INTEGER);\ns0: SET DATABASE TRANSACTION CONTROL MVCC;\n",
+    )?;
     push_inserts(&mut out)?;
     push_autocommits(&mut out)?;
     push_entries(&mut out, n)?;

@@ -9,5 +9,5 @@ loop-preserved c =
     record {
       number = number;
       written = written_more (λ (i : ℕ). entry_line (number_of c.args.n (i + 1))) c.loop.counter c.args.out.now c.loop.out _ c.loop.invariant.written
-        (c.in_ok-push_entry.ensures ∙ ap (λ (x : ℕ). c.loop.out ++ entry_line x) number)
+          (c.in_ok-push_entry.ensures ∙ ap (λ (x : ℕ). c.loop.out ++ entry_line x) number);
     }

@@ -8,10 +8,10 @@ use Rattle.hs_cache.proofs.frames.Frames.clean.Goals.{in-Some, in_default}
 
 pub returns-clause-pages : goal.returns-clause-pages
 returns-clause-pages c = elim c.match-peek_mut.branch [
-    in-Some w ↦
+  | in-Some w ↦
       let found = sym c.peek_mut.follows ∙ ap option_copied_mut w.in-Some.is in
       ap (λ i. i.cache.entries) w.self-inside-is ∙ changed_is c.args.p.0 cleaned _ _ found ∙ ap (λ (held : Held). changed c.args.p.0 cleaned held.pages) c.self.view_is
   | in_default w ↦
       let found = sym c.peek_mut.follows ∙ ap option_copied_mut w.in_default.is in
       ap (λ i. i.cache.entries) w.self-inside-is ∙ changed_none c.args.p.0 cleaned _ found ∙ ap (λ (held : Held). changed c.args.p.0 cleaned held.pages) c.self.view_is
-  ]
+]
