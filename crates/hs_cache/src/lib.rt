@@ -2,5 +2,7 @@
 #![tactic(auto)]
 
 mod frames;
+#[cfg(test)]
+mod tests;
 
 pub use frames::{Frame, Frames};

@@ -10,6 +10,8 @@ mod put;
 mod read;
 mod row;
 mod take;
+#[cfg(test)]
+mod tests;
 
 pub use page::Page;
 pub use row::PageRow;

@@ -3,6 +3,8 @@
 
 mod generated;
 mod summary;
+#[cfg(test)]
+mod tests;
 
 pub use generated::text;
 pub use summary::Summary;
