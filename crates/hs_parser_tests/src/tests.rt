@@ -213,7 +213,9 @@ fn words_are_reserved(rt: HostRuntime) -> Result<(), Fail> {
     for word in ["SELECT", "select", "Float", "TRUE", "INTERVAL"] {
         assert!(rt; is_reserved(word.as_bytes()), "{word}");
     }
-    for word in ["ACTION", "action", "WORK", "NUMBER", "TYPE", "T", "_SELECT", ""] {
+    for word in [
+        "ACTION", "action", "WORK", "NUMBER", "TYPE", "T", "_SELECT", "",
+    ] {
         assert!(rt; !is_reserved(word.as_bytes()), "{word}");
     }
     law_of_one_reading();
