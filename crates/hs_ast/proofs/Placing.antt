@@ -54,7 +54,6 @@ maps_again : {A : Type 0} (f g : A → A) → ((a : A) → f (g a) ≡ f a) → 
 maps_again f g h [] = refl
 maps_again f g h (x ∷ xs) = ap (λ z. z ∷ map f (map g xs)) (h x) ∙ ap (λ z. f x ∷ z) (maps_again f g h xs)
 
-
 if_named_again : (p q : ℕ) (name : Option Identifier) → placed_if_named p (placed_if_named q name) ≡ placed_if_named p name
 if_named_again p q None = refl
 if_named_again p q (Some name) = refl

@@ -11,7 +11,7 @@ use Rattle.hs_ast.specs.declared.expression.CaseArm.{CaseArm, roll-CaseArm, fold
 use Rattle.hs_ast.specs.declared.expression.ColumnName.{ColumnName}
 use Rattle.hs_ast.specs.declared.expression.DateField.{DateField}
 use Rattle.hs_ast.specs.declared.expression.Expression.{Expression, roll-Expression, fold-roll-Expression}
-use Rattle.hs_ast.specs.declared.expression.ExpressionKind.{ExpressionKind, fold-roll-ExpressionKind}
+use Rattle.hs_ast.specs.declared.expression.ExpressionKind.{fold-roll-ExpressionKind}
 use Rattle.hs_ast.specs.declared.expression.ExpressionKind.TheOpen.{ExpressionKind-F, Join-F, QueryBody-F, SelectItem-F, TableReference-F}
 use Rattle.hs_ast.specs.declared.expression.ExpressionKind.TheVariants as kind
 use Rattle.hs_ast.specs.declared.expression.Function.{Function}

@@ -1,11 +1,10 @@
 -- Each step makes lawful parts of lawful ones.
-use Rattle.std.proofs.Common.{◌≡◌, ℕ, ◌+◌, ◌^◌, ◌-◌, arith, suc, zero, Bool, true, false, ◌&&◌, List, [], ◌∷◌, ◌++◌, map, Option, Some, None, refl, ap, sym, ◌∙◌}
+use Rattle.std.proofs.Common.{◌≡◌, ℕ, ◌+◌, ◌^◌, ◌-◌, arith, suc, zero, Bool, true, false, ◌&&◌, List, [], ◌∷◌, ◌++◌, Option, Some, None, refl, ap, ◌∙◌}
 use Rattle.std.specs.Prelude.{ℤ, pos, negsuc, ◌-ℤ◌, nat_le, nat_lt, unwrap_or, cond}
 use Rattle.std.proofs.lemmas.Bool.Decides.{nat_tests}
 use Rattle.std.specs.List.{list_all}
 use Rattle.hs_ast.specs.Lawful as law
 use Rattle.hs_ast.specs.Lawful.{is_lawful, is_lawful_query, is_identifier, if_written}
-use Rattle.hs_ast.specs.declared.change.Assignment.{Assignment}
 use Rattle.hs_ast.specs.declared.change.Delete.{Delete}
 use Rattle.hs_ast.specs.declared.change.LockedTable.{LockedTable}
 use Rattle.hs_ast.specs.declared.change.NewValue.{NewValue}
@@ -23,7 +22,7 @@ use Rattle.hs_ast.specs.declared.definition.TableConstraint.{TableConstraint}
 use Rattle.hs_ast.specs.declared.definition.TableElement.TheVariants as element
 use Rattle.hs_ast.specs.declared.expression.Aggregate.{Aggregate}
 use Rattle.hs_ast.specs.declared.expression.BinaryOperator.{BinaryOperator}
-use Rattle.hs_ast.specs.declared.expression.CaseArm.{CaseArm, roll-CaseArm}
+use Rattle.hs_ast.specs.declared.expression.CaseArm.{roll-CaseArm}
 use Rattle.hs_ast.specs.declared.expression.DateField.{DateField}
 use Rattle.hs_ast.specs.declared.expression.Expression.{Expression}
 use Rattle.hs_ast.specs.declared.expression.ExpressionKind.TheVariants as kind
@@ -35,7 +34,7 @@ use Rattle.hs_ast.specs.declared.expression.TrimForm.{TrimForm}
 use Rattle.hs_ast.specs.declared.literal.Literal.{Literal}
 use Rattle.hs_ast.specs.declared.literal.Literal.TheVariants as literal
 use Rattle.hs_ast.specs.declared.literal.Number.{Number}
-use Rattle.hs_ast.specs.declared.query.FromItem.{FromItem, roll-FromItem}
+use Rattle.hs_ast.specs.declared.query.FromItem.{roll-FromItem}
 use Rattle.hs_ast.specs.declared.query.Join.TheVariants as join
 use Rattle.hs_ast.specs.declared.query.Limit.{Limit}
 use Rattle.hs_ast.specs.declared.query.Query.{roll-Query}
@@ -43,9 +42,9 @@ use Rattle.hs_ast.specs.declared.query.QueryBody.TheVariants as body
 use Rattle.hs_ast.specs.declared.query.Select.{roll-Select}
 use Rattle.hs_ast.specs.declared.query.SelectItem.TheVariants as shown
 use Rattle.hs_ast.specs.declared.query.SetOperator.{SetOperator}
-use Rattle.hs_ast.specs.declared.query.SortKey.{SortKey, roll-SortKey}
+use Rattle.hs_ast.specs.declared.query.SortKey.{roll-SortKey}
 use Rattle.hs_ast.specs.declared.query.TableReference.{TableReference}
-use Rattle.hs_ast.specs.declared.query.ValuesRow.{ValuesRow, roll-ValuesRow}
+use Rattle.hs_ast.specs.declared.query.ValuesRow.{roll-ValuesRow}
 use Rattle.hs_ast.specs.declared.session.Access.{Access}
 use Rattle.hs_ast.specs.declared.session.Isolation.{Isolation}
 use Rattle.hs_ast.specs.declared.session.Modes.{Modes}
@@ -79,8 +78,8 @@ use Rattle.hs_builder.specs.Leaves as leaves
 use Rattle.hs_builder.specs.Queries as query
 use Rattle.hs_builder.specs.Queries.{body_at, join_of, with_offset}
 use Rattle.hs_builder.specs.Sessions as session
-use Rattle.hs_builder.specs.Steps.{Step, stands, deep, wrong, greater, over, at_depth, natural}
-use Rattle.hs_builder.specs.LawfulParts.{arm_lawful, join_lawful, body_lawful, item_lawful, table_lawful, from_lawful, select_lawful, key_lawful, row_lawful, LawfulName, LawfulNames, LawfulAlias, LawfulNumber, LawfulLiteral, LawfulType, LawfulCount, LawfulBuilt, LawfulList, LawfulCase, LawfulSelect, LawfulTable, LawfulFrom, LawfulRows, LawfulBody, LawfulQuery, LawfulTarget, LawfulTuple, LawfulTuples, LawfulUpdate, LawfulDelete, LawfulLocks, LawfulCreate, LawfulColumn, LawfulHeader, LawfulKey, LawfulConstraint, LawfulStatement, Every, TopIs, TopTwoAre, IsPrecision, IsScaled, IsLength, IsPositive, IsUnsigned}
+use Rattle.hs_builder.specs.Steps.{greater, over, at_depth, natural}
+use Rattle.hs_builder.specs.LawfulParts.{arm_lawful, join_lawful, item_lawful, table_lawful, from_lawful, key_lawful, row_lawful, LawfulName, LawfulNames, LawfulAlias, LawfulNumber, LawfulLiteral, LawfulType, LawfulCount, LawfulBuilt, LawfulList, LawfulCase, LawfulSelect, LawfulTable, LawfulFrom, LawfulRows, LawfulBody, LawfulQuery, LawfulTarget, LawfulTuple, LawfulTuples, LawfulUpdate, LawfulDelete, LawfulLocks, LawfulCreate, LawfulColumn, LawfulHeader, LawfulKey, LawfulConstraint, LawfulStatement, Every, TopIs, TopTwoAre, IsPrecision, IsScaled, IsLength, IsPositive, IsUnsigned}
 use Rattle.hs_builder.proofs.Covering.{Then}
 use Rattle.hs_builder.proofs.LawfulLayers as layer
 use Rattle.hs_builder.proofs.LawfulLayers.{both, left, right, pushed, false_is_true}

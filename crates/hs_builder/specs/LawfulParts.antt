@@ -1,13 +1,12 @@
 -- Lawful parts: each name, number, type and tree that waits on a stack is lawful, and what a step needs of what it reads so that it
 -- makes lawful parts of lawful ones.
-use Rattle.std.specs.Prelude.{◌≡◌, ℕ, Bool, true, ◌&&◌, nat_le, List, [], ◌∷◌, Option, None}
+use Rattle.std.specs.Prelude.{◌≡◌, ℕ, Bool, true, nat_le, List, [], ◌∷◌, Option}
 use Rattle.std.specs.List.{list_all}
 use Rattle.hs_ast.specs.Lawful as law
 use Rattle.hs_ast.specs.Lawful.{is_lawful, is_lawful_query, is_identifier, if_written}
 use Rattle.hs_ast.specs.declared.change.Delete.{Delete}
 use Rattle.hs_ast.specs.declared.change.LockedTable.{LockedTable}
 use Rattle.hs_ast.specs.declared.change.Update.{Update}
-use Rattle.hs_ast.specs.declared.change.NewValue.{NewValue}
 use Rattle.hs_ast.specs.declared.definition.ColumnDefinition.{ColumnDefinition}
 use Rattle.hs_ast.specs.declared.definition.CreateTable.{CreateTable}
 use Rattle.hs_ast.specs.declared.definition.DataType.{DataType}

@@ -1,23 +1,22 @@
 -- A gated file whose bytes before a place stay as they were.
-use Rattle.std.proofs.Common.{◌≡◌, ℕ, ◌+◌, ◌*◌, ◌<◌, ◌≤◌, ◌^◌, ◌==◌, ◌&&◌, nat_le, Bool, true, false, List, [], ◌∷◌, ◌++◌, length, take, drop, get_or, slice_index, Some, refl, sym, ◌∙◌, ap, arith, zero-add, append_assoc, length-append, length-take, length-drop}
+use Rattle.std.proofs.Common.{◌≡◌, ℕ, ◌+◌, ◌*◌, ◌<◌, ◌≤◌, ◌^◌, ◌==◌, ◌&&◌, nat_le, nat_lt, Bool, true, false, List, [], ◌∷◌, ◌++◌, length, take, drop, get_or, slice_index, Some, refl, sym, ◌∙◌, ap, arith, zero-add, append_assoc, length-append, length-take, length-drop}
 use Rattle.std.proofs.lemmas.List.{append-nil, get_or-take, drop_at, length_push, take-take}
-use Rattle.std.proofs.lemmas.Bool.{leb-true, le-leb}
+use Rattle.std.proofs.lemmas.Bool.{leb-true, le-leb, lt-ltb}
 use Rattle.hs_host.specs.declared.file_kind.FileKind.{FileKind}
-use Rattle.hs_host.specs.Files.{Five, of, with_, overwrite}
+use Rattle.hs_host.specs.Files.{Five, of, overwrite}
 use Rattle.hs_gate.specs.declared.gated.Gated.{Gated}
 use Rattle.hs_gate.specs.declared.gated.Front.{Front}
 use Rattle.hs_gate.specs.declared.scan.Ending.{Ending}
 use Rattle.hs_gate.specs.declared.found.Found.TheVariants.{Closed}
-use Rattle.hs_gate.specs.Groups.{Groups, whole, ahead, is_open, epoch_of, eight_bytes, group, end_of, groups_at, groups_of, and_group, is_whole, size_of, number_of}
-use Rattle.hs_gate.specs.Changes.{IsOnly}
+use Rattle.hs_gate.specs.Groups.{Groups, whole, is_open, is_born, epoch_of, eight_bytes, spelled, end_of, groups_at, groups_of, and_groups, is_whole, size_of, number_of}
+use Rattle.hs_gate.specs.Crash.{HasSameHeader, HasMore}
 use Rattle.hs_gate.specs.Scan.{found_in, ending}
 use Rattle.hs_gate.specs.Gated.{IsFront, IsGated, IsAtRest, gated_of, reading_of, grown, appended, empty, started, created}
 use Rattle.hs_gate.proofs.Numbers.{number_same, length-spelled, length-spelled_append, length-group, few_groups, length-eight, number_of_eight}
 use Rattle.hs_gate.proofs.Pieces.{piece_same, take_same, take-overwrite, drop-overwrite, length-overwrite}
 use Rattle.hs_gate.proofs.Steps.{groups-drop, closed_first, closed_there, chose_closed}
 use Rattle.hs_gate.proofs.Carried.{walk, carry, prepend}
-use Rattle.hs_gate.proofs.Spelling.{group_read}
-use Rattle.hs_gate.proofs.Writes.{of_written, changed_twice, write_before}
+use Rattle.hs_gate.proofs.Spelling.{spelled_read}
 
 both_true : (a b : Bool) → (a && b) ≡ true → (a ≡ true) × (b ≡ true)
 both_true true b e = (refl, e)
@@ -35,6 +34,29 @@ open_same new old opened same long =
 
 pub epoch_same : (new old : List ℕ) → take 10 new ≡ take 10 old → epoch_of new ≡ epoch_of old
 epoch_same new old same = number_same (drop 2 new) (drop 2 old) (piece_same 2 8 10 new old same (omega arith))
+
+-- files that begin with the same byte are both born or both not
+pub born_by : (new old : List ℕ) → get_or new 0 0 ≡ get_or old 0 0 → 1 ≤ length new → 1 ≤ length old → is_born new ≡ is_born old
+born_by new old same long enough =
+    let some : nat_lt 0 (length new) ≡ true = lt-ltb 0 (length new) (omega (arith, long)) in
+    let other : nat_lt 0 (length old) ≡ true = lt-ltb 0 (length old) (omega (arith, enough)) in
+    rw (some, other, same) refl
+
+no_too : (a : Bool) → (a && false) ≡ false
+no_too true = refl
+no_too false = refl
+
+unborn_zero : (bytes : List ℕ) → is_born (0 ∷ bytes) ≡ false
+unborn_zero bytes = no_too (nat_lt 0 (length (0 ∷ bytes)))
+
+pub unborn_over : (bytes : List ℕ) → is_born (overwrite bytes 0 (0 ∷ 1 ∷ 0 ∷ 0 ∷ 0 ∷ 0 ∷ 0 ∷ 0 ∷ 0 ∷ 1 ∷ 0 ∷ [])) ≡ false
+unborn_over bytes = unborn_zero (1 ∷ 0 ∷ 0 ∷ 0 ∷ 0 ∷ 0 ∷ 0 ∷ 0 ∷ 1 ∷ 0 ∷ drop 11 bytes)
+
+pub get_same : (n i : ℕ) (a b : List ℕ) → take n a ≡ take n b → i < n → get_or a i 0 ≡ get_or b i 0
+get_same n i a b same below = sym (get_or-take n a i 0 below) ∙ ap (λ (l : List ℕ). get_or l i 0) same ∙ get_or-take n b i 0 below
+
+pub born_same : (n : ℕ) (new old : List ℕ) → take n new ≡ take n old → 0 < n → 1 ≤ length new → 1 ≤ length old → is_born new ≡ is_born old
+born_same n new old same some long enough = born_by new old (get_same n 0 new old same some) long enough
 
 -- where its groups end, a file has one more byte
 pub front_within : (bytes : List ℕ) → is_open bytes ≡ true → end_of (groups_of bytes).payloads < length bytes
@@ -80,57 +102,60 @@ groups_stay new bytes closed same long there =
     ∙ ap (λ (b : Bool). with_broken (payloads ++ []) b) (sym closed)
     ∙ ap (λ (l : List (List ℕ)). with_broken l (groups_of bytes).is_broken) (append-nil payloads)
 
--- and where a group and a closed gate stand there, they are one more
-pub groups_grow : (new bytes payload more : List ℕ) → (groups_of bytes).is_broken ≡ false → length payload < 2 ^ 64 → take (end_of (groups_of bytes).payloads) new ≡ take (end_of (groups_of bytes).payloads) bytes
-    → end_of (groups_of bytes).payloads < length new → drop (end_of (groups_of bytes).payloads) new ≡ group payload ++ 0 ∷ more → groups_of new ≡ and_group payload (groups_of bytes)
-groups_grow new bytes payload more closed small same long tail =
+-- and where groups and a closed gate stand there, they are these more
+pub groups_grow : (new bytes rest : List ℕ) (more : List (List ℕ)) → (groups_of bytes).is_broken ≡ false → length (spelled more) < 2 ^ 64 → take (end_of (groups_of bytes).payloads) new ≡ take (end_of (groups_of bytes).payloads) bytes
+    → end_of (groups_of bytes).payloads < length new → drop (end_of (groups_of bytes).payloads) new ≡ spelled more ++ 0 ∷ rest → groups_of new ≡ and_groups more (groups_of bytes)
+groups_grow new bytes rest more closed small same long tail =
     let payloads = (groups_of bytes).payloads in
     let end = end_of payloads in
-    let last : groups_at end new ≡ whole (payload ∷ []) =
-    groups-drop end new
-    ∙ ap (λ (l : List ℕ). groups_at 0 l) tail
-    ∙ group_read payload (0 ∷ more) small (omega arith)
-    ∙ ap (λ (g : Groups). ahead payload g) (closed_first (0 ∷ more) refl) in
+    let last : groups_at end new ≡ whole more = groups-drop end new ∙ ap (λ (l : List ℕ). groups_at 0 l) tail ∙ spelled_read more rest small in
     carry payloads 10 end new bytes refl refl same long
     ∙ ap (λ (g : Groups). prepend payloads g) last
-    ∙ ap (λ (b : Bool). with_broken (payloads ++ payload ∷ []) b) (sym closed)
+    ∙ ap (λ (b : Bool). with_broken (payloads ++ more) b) (sym closed)
 
--- one more group in the bytes
-pub append_groups : (bytes payload : List ℕ) → is_open bytes ≡ true → (groups_of bytes).is_broken ≡ false → length payload < 2 ^ 64
-    → groups_of (appended bytes (end_of (groups_of bytes).payloads) payload) ≡ and_group payload (groups_of bytes)
-append_groups bytes payload opened closed small =
+-- these groups more in the bytes
+pub append_groups : (bytes : List ℕ) (more : List (List ℕ)) → is_open bytes ≡ true → (groups_of bytes).is_broken ≡ false → length (spelled more) < 2 ^ 64
+    → groups_of (appended bytes (end_of (groups_of bytes).payloads) more) ≡ and_groups more (groups_of bytes)
+append_groups bytes more opened closed small =
     let end = end_of (groups_of bytes).payloads in
     let within : end < length bytes = front_within bytes opened in
-    let body = group payload ++ 0 ∷ [] in
-    let new = appended bytes end payload in
-    let more = drop (end + length body) bytes in
-    groups_grow new bytes payload more closed small (take-overwrite bytes end body (omega (arith, within)))
-    (omega (arith, length-overwrite bytes end body (omega (arith, within)), length-append (group payload) (0 ∷ [])))
-    (drop-overwrite bytes end body (omega (arith, within)) ∙ append_assoc (group payload) (0 ∷ []) more)
+    let body = spelled more ++ 0 ∷ [] in
+    let new = appended bytes end more in
+    let rest = drop (end + length body) bytes in
+    groups_grow new bytes rest more closed small (take-overwrite bytes end body (omega (arith, within)))
+    (omega (arith, length-overwrite bytes end body (omega (arith, within)), length-append (spelled more) (0 ∷ [])))
+    (drop-overwrite bytes end body (omega (arith, within)) ∙ append_assoc (spelled more) (0 ∷ []) rest)
+
+-- an open file that keeps its first bytes has the same header
+pub header_stays : (new old : List ℕ) → is_open old ≡ true → take 10 new ≡ take 10 old → 10 < length new → HasSameHeader old new
+header_stays new old opened same long = record {
+  birth = born_same 10 new old same (omega arith) (omega (arith, long)) (omega (arith, open_long old opened));
+  gate = open_same new old opened same long ∙ sym opened;
+  epoch = epoch_same new old same;
+}
 
 -- and so in the file
-pub append_gated : (old new : Five (List ℕ)) (gated : Gated) (payload : List ℕ) → IsGated old gated → length payload < 2 ^ 64
-    → of new gated.file ≡ appended (of old gated.file) gated.end payload
-    → (groups_of (of new gated.file) ≡ and_group payload (groups_of (of old gated.file))) × IsGated new (grown gated (length payload))
-append_gated old new gated payload stands small is =
+pub append_gated : (old new : Five (List ℕ)) (gated : Gated) (more : List (List ℕ)) → IsGated old gated → length (spelled more) < 2 ^ 64
+    → of new gated.file ≡ appended (of old gated.file) gated.end more
+    → HasMore (of old gated.file) more (of new gated.file) × IsGated new (grown gated more)
+append_gated old new gated more stands small is =
     let bytes = of old gated.file in
     let payloads = (groups_of bytes).payloads in
     let end = end_of payloads in
-    let body = group payload ++ 0 ∷ [] in
+    let body = spelled more ++ 0 ∷ [] in
     let end_is : gated.end ≡ end = ap (λ (g : Gated). g.end) stands.front.is in
     let epoch_is : gated.epoch ≡ epoch_of bytes = ap (λ (g : Gated). g.epoch) stands.front.is in
     let count_is : gated.groups ≡ length payloads = ap (λ (g : Gated). g.groups) stands.front.is in
-    let new_is : of new gated.file ≡ appended bytes end payload = is ∙ ap (λ (n : ℕ). appended bytes n payload) end_is in
+    let new_is : of new gated.file ≡ appended bytes end more = is ∙ ap (λ (n : ℕ). appended bytes n more) end_is in
     let within : end < length bytes = front_within bytes stands.front.opened in
-    let groups : groups_of (of new gated.file) ≡ and_group payload (groups_of bytes) = ap groups_of new_is ∙ append_groups bytes payload stands.front.opened stands.whole small in
-    let now : (groups_of (of new gated.file)).payloads ≡ payloads ++ payload ∷ [] = ap (λ (g : Groups). g.payloads) groups in
+    let groups : groups_of (of new gated.file) ≡ and_groups more (groups_of bytes) = ap groups_of new_is ∙ append_groups bytes more stands.front.opened stands.whole small in
+    let now : (groups_of (of new gated.file)).payloads ≡ payloads ++ more = ap (λ (g : Groups). g.payloads) groups in
     let front : take 10 (of new gated.file) ≡ take 10 bytes =
     take_same 10 end (of new gated.file) bytes (ap (λ (l : List ℕ). take end l) new_is ∙ take-overwrite bytes end body (omega (arith, within))) (omega arith) in
-    let long : 10 < length (of new gated.file) = omega (arith, ap length new_is, length-overwrite bytes end body (omega (arith, within)), length-append (group payload) (0 ∷ [])) in
-    let last : end_of (payloads ++ payload ∷ []) ≡ gated.end + (9 + length payload) =
-    omega (arith, length-spelled_append payloads (payload ∷ []), length-spelled payload [], end_is) in
-    let count : length (payloads ++ payload ∷ []) ≡ gated.groups + 1 = length_push payloads payload ∙ ap (λ (n : ℕ). n + 1) (sym count_is) in (
-      groups,
+    let long : 10 < length (of new gated.file) = omega (arith, ap length new_is, length-overwrite bytes end body (omega (arith, within)), length-append (spelled more) (0 ∷ [])) in
+    let last : end_of (payloads ++ more) ≡ gated.end + length (spelled more) = omega (arith, length-spelled_append payloads more, end_is) in
+    let count : length (payloads ++ more) ≡ gated.groups + length more = length-append payloads more ∙ ap (λ (n : ℕ). n + length more) (sym count_is) in (
+      record { header = header_stays (of new gated.file) bytes stands.front.opened front long; groups = groups },
       record {
         front = record {
           opened = open_same (of new gated.file) bytes stands.front.opened front long;
@@ -141,14 +166,14 @@ append_gated old new gated payload stands small is =
     )
 
 -- a file that ended with its closed gate ends with the new one
-pub append_at_rest : (old new : Five (List ℕ)) (gated : Gated) (payload : List ℕ) → IsAtRest old gated → length payload < 2 ^ 64
-    → of new gated.file ≡ appended (of old gated.file) gated.end payload → IsAtRest new (grown gated (length payload))
-append_at_rest old new gated payload rest small is = record {
-  stands = (append_gated old new gated payload rest.stands small is).1;
+pub append_at_rest : (old new : Five (List ℕ)) (gated : Gated) (more : List (List ℕ)) → IsAtRest old gated → length (spelled more) < 2 ^ 64
+    → of new gated.file ≡ appended (of old gated.file) gated.end more → IsAtRest new (grown gated more)
+append_at_rest old new gated more rest small is = record {
+  stands = (append_gated old new gated more rest.stands small is).1;
   last =
       let bytes = of old gated.file in
-      let body = group payload ++ 0 ∷ [] in
-      let size : length body ≡ 10 + length payload = omega (arith, length-append (group payload) (0 ∷ []), length-group payload) in
+      let body = spelled more ++ 0 ∷ [] in
+      let size : length body ≡ 1 + length (spelled more) = omega (arith, length-append (spelled more) (0 ∷ [])) in
       let front : length (take gated.end bytes) ≡ gated.end = omega (arith, length-take gated.end bytes, rest.last) in
       let none : length (drop (gated.end + length body) bytes) ≡ 0 = omega (arith, length-drop (gated.end + length body) bytes, rest.last, size) in
       omega (arith, ap length is, length-append (take gated.end bytes ++ body) (drop (gated.end + length body) bytes), length-append (take gated.end bytes) body, size, front, none);
@@ -197,33 +222,6 @@ cut_gated old new gated stands is =
       },
     )
 
--- what the two writes of a group make of the bytes
-pub append_bytes : (old mid new : Five (List ℕ)) (gated : Gated) (payload : List ℕ) → IsGated old gated
-    → mid ≡ with_ old gated.file (overwrite (of old gated.file) (gated.end + 1) (eight_bytes (length payload) ++ payload ++ 0 ∷ []))
-    → new ≡ with_ mid gated.file (overwrite (of mid gated.file) gated.end (1 ∷ []))
-    → of new gated.file ≡ appended (of old gated.file) gated.end payload
-append_bytes old mid new gated payload stands first second =
-    of_written old new gated.file (appended (of old gated.file) gated.end payload)
-    (write_before old mid new gated.file gated.end 1 (eight_bytes (length payload) ++ payload ++ 0 ∷ []) (end_within old gated stands.front) first second)
-
-pub append_before : (old new : Five (List ℕ)) (gated : Gated) (payload : List ℕ) → IsGated old gated → of new gated.file ≡ appended (of old gated.file) gated.end payload
-    → take gated.end (of new gated.file) ≡ take gated.end (of old gated.file)
-append_before old new gated payload stands is =
-    let within = end_within old gated stands.front in
-    ap (λ (l : List ℕ). take gated.end l) is ∙ take-overwrite (of old gated.file) gated.end (group payload ++ 0 ∷ []) (omega (arith, within))
-
-pub payload_long : (old mid : Five (List ℕ)) (file : FileKind) (at : ℕ) (bytes : List ℕ) → at < length (of old file) → mid ≡ with_ old file (overwrite (of old file) (at + 1) bytes) → at ≤ length (of mid file)
-payload_long old mid file at bytes lt is =
-    let now = of_written old mid file (overwrite (of old file) (at + 1) bytes) is in
-    omega (arith, ap length now, length-overwrite (of old file) (at + 1) bytes (omega (arith, lt)))
-
--- what a cut leaves
-pub cut_bytes : (old mid new : Five (List ℕ)) (file : FileKind) (end count : ℕ) → mid ≡ old → count ≡ end + 1 → new ≡ with_ mid file (take count (of mid file)) → of new file ≡ take (end + 1) (of old file)
-cut_bytes old mid new file end count same count_is is =
-    of_written mid new file (take count (of mid file)) is
-    ∙ ap (λ (n : ℕ). take n (of mid file)) count_is
-    ∙ ap (λ (f : Five (List ℕ)). take (end + 1) (of f file)) same
-
 -- a file that has just begun
 fresh_bytes : (birth epoch : ℕ) → epoch < 2 ^ 64 → (is_open (birth ∷ 1 ∷ eight_bytes epoch ++ 0 ∷ []) ≡ true) × (epoch_of (birth ∷ 1 ∷ eight_bytes epoch ++ 0 ∷ []) ≡ epoch)
     × (groups_of (birth ∷ 1 ∷ eight_bytes epoch ++ 0 ∷ []) ≡ whole []) × (length (birth ∷ 1 ∷ eight_bytes epoch ++ 0 ∷ []) ≡ 11)
@@ -253,44 +251,23 @@ fresh files file birth epoch small is =
       last = ap length is ∙ f.3;
     }
 
-start_bytes : (bytes header : List ℕ) → 2 ≤ length bytes → overwrite (take 2 bytes ++ header) 1 (1 ∷ []) ≡ take 1 bytes ++ (1 ∷ header)
-start_bytes [] header long = absurd (omega (arith, long))
-start_bytes (b ∷ []) header long = absurd (omega (arith, long))
-start_bytes (b ∷ c ∷ bytes) header long = refl
-
 birth_byte : (bytes : List ℕ) → 2 ≤ length bytes → take 1 bytes ≡ get_or bytes 0 0 ∷ []
 birth_byte [] long = absurd (omega (arith, long))
 birth_byte (b ∷ bytes) long = refl
 
 -- the file that a start leaves
-pub started_is : (old first mid new : Five (List ℕ)) (file : FileKind) (header : List ℕ) (epoch : ℕ) → 2 ≤ length (of first file) → header ≡ eight_bytes epoch ++ 0 ∷ [] → IsOnly old file first
-    → take 1 (of first file) ≡ take 1 (of old file) → mid ≡ with_ first file (take 2 (of first file) ++ header) → new ≡ with_ mid file (overwrite (of mid file) 1 (1 ∷ []))
-    → new ≡ with_ old file (started (of old file) epoch)
-started_is old first mid new file header epoch long header_is first_is same mid_is new_is =
-    let bytes = of first file in
-    let replaced = take 2 bytes ++ header in
-    changed_twice old mid new file replaced (overwrite (of mid file) 1 (1 ∷ [])) (changed_twice old first mid file bytes replaced first_is mid_is) new_is
-    ∙ ap (λ (l : List ℕ). with_ old file (overwrite l 1 (1 ∷ []))) (of_written first mid file replaced mid_is)
-    ∙ ap (λ (l : List ℕ). with_ old file l) (start_bytes bytes header long)
-    ∙ ap (λ (l : List ℕ). with_ old file (take 1 bytes ++ (1 ∷ l))) header_is
-    ∙ ap (λ (l : List ℕ). with_ old file (l ++ (1 ∷ eight_bytes epoch ++ 0 ∷ []))) same
-
-pub started_fresh : (old new : Five (List ℕ)) (file : FileKind) (epoch : ℕ) → epoch < 2 ^ 64 → 2 ≤ length (of old file) → new ≡ with_ old file (started (of old file) epoch) → IsAtRest new (empty file epoch)
+pub started_fresh : (old new : Five (List ℕ)) (file : FileKind) (epoch : ℕ) → epoch < 2 ^ 64 → 2 ≤ length (of old file) → of new file ≡ started (of old file) epoch → IsAtRest new (empty file epoch)
 started_fresh old new file epoch small long is =
     fresh new file (get_or (of old file) 0 0) epoch small
-    (of_written old new file (started (of old file) epoch) is ∙ ap (λ (l : List ℕ). l ++ (1 ∷ eight_bytes epoch ++ 0 ∷ [])) (birth_byte (of old file) long))
+    (is ∙ ap (λ (l : List ℕ). l ++ (1 ∷ eight_bytes epoch ++ 0 ∷ [])) (birth_byte (of old file) long))
 
 -- the file that a creation leaves
-pub created_is : (old mid new : Five (List ℕ)) (file : FileKind) → mid ≡ with_ old file (take 0 (of old file) ++ (0 ∷ 1 ∷ 0 ∷ 0 ∷ 0 ∷ 0 ∷ 0 ∷ 0 ∷ 0 ∷ 1 ∷ 0 ∷ []))
-    → new ≡ with_ mid file (overwrite (of mid file) 0 (1 ∷ [])) → new ≡ with_ old file created
+pub created_is : (old : List ℕ) → overwrite (take 11 (overwrite old 0 (0 ∷ 1 ∷ 0 ∷ 0 ∷ 0 ∷ 0 ∷ 0 ∷ 0 ∷ 0 ∷ 1 ∷ 0 ∷ []))) 0 (1 ∷ []) ≡ created
 unfolding eight_bytes
-created_is old mid new file first second =
-    let unborn = 0 ∷ 1 ∷ 0 ∷ 0 ∷ 0 ∷ 0 ∷ 0 ∷ 0 ∷ 0 ∷ 1 ∷ 0 ∷ [] in
-    changed_twice old mid new file unborn (overwrite (of mid file) 0 (1 ∷ [])) first second
-    ∙ ap (λ (l : List ℕ). with_ old file (overwrite l 0 (1 ∷ []))) (of_written old mid file unborn first)
+created_is old = refl
 
-pub created_fresh : (old new : Five (List ℕ)) (file : FileKind) → new ≡ with_ old file created → IsAtRest new (empty file 1)
-created_fresh old new file is = fresh new file 1 1 (omega arith) (of_written old new file created is)
+pub created_fresh : (new : Five (List ℕ)) (file : FileKind) → of new file ≡ created → IsAtRest new (empty file 1)
+created_fresh new file is = fresh new file 1 1 (omega arith) is
 
 take_ten : (header bytes : List ℕ) → header ≡ take (length header) bytes → 10 ≤ length header → take 10 header ≡ take 10 bytes
 take_ten header bytes front long = ap (λ (l : List ℕ). take 10 l) front ∙ take-take 10 (length header) bytes long

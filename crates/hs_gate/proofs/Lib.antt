@@ -1,6 +1,8 @@
+pub mod Anew
+pub mod Batches
 pub mod Carried
-pub mod Failed
 pub mod Fronts
+pub mod Gates
 pub mod Looking
 pub mod Moments
 pub mod Numbers
@@ -10,4 +12,3 @@ pub mod Scanning
 pub mod Spelling
 pub mod Steps
 pub mod Torn
-pub mod Writes

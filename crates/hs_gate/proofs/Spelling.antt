@@ -71,14 +71,22 @@ group_read payload more small some =
     ∙ ap (λ (l : List ℕ). ahead payload (groups_at 0 l)) (drop_at (group payload) more (9 + length payload) (length-group payload))
 
 -- spelled groups are read as they are
-groups_read : (payloads : List (List ℕ)) (more : List ℕ) → length (spelled payloads ++ more) < 2 ^ 64 → 0 < length more → groups_at 0 (spelled payloads ++ more) ≡ prepend payloads (groups_at 0 more)
+pub groups_read : (payloads : List (List ℕ)) (more : List ℕ) → length (spelled payloads) < 2 ^ 64 → 0 < length more → groups_at 0 (spelled payloads ++ more) ≡ prepend payloads (groups_at 0 more)
 groups_read [] more small some = refl
 groups_read (p ∷ ps) more small some =
-    let all : spelled (p ∷ ps) ++ more ≡ group p ++ (spelled ps ++ more) = append_assoc (group p) (spelled ps) more in
-    let lengths : length (spelled (p ∷ ps) ++ more) ≡ 9 + length p + length (spelled ps ++ more) = ap length all ∙ length-append (group p) (spelled ps ++ more) ∙ ap (λ (n : ℕ). n + length (spelled ps ++ more)) (length-group p) in
-    ap (λ (l : List ℕ). groups_at 0 l) all
-    ∙ group_read p (spelled ps ++ more) (omega (arith, lengths, small)) (omega (arith, length-append (spelled ps) more, some))
-    ∙ ap (λ (g : Groups). ahead p g) (groups_read ps more (omega (arith, lengths, small)) some)
+    let size = length-spelled p ps in
+    ap (λ (l : List ℕ). groups_at 0 l) (append_assoc (group p) (spelled ps) more)
+    ∙ group_read p (spelled ps ++ more) (omega (arith, size, small)) (omega (arith, length-append (spelled ps) more, some))
+    ∙ ap (λ (g : Groups). ahead p g) (groups_read ps more (omega (arith, size, small)) some)
+
+-- and nothing else, where a closed gate stands behind them
+pub spelled_read : (payloads : List (List ℕ)) (rest : List ℕ) → length (spelled payloads) < 2 ^ 64 → groups_at 0 (spelled payloads ++ 0 ∷ rest) ≡ whole payloads
+spelled_read payloads rest small =
+    groups_read payloads (0 ∷ rest) small (omega arith) ∙ ap (λ (g : Groups). prepend payloads g) (closed_first (0 ∷ rest) refl) ∙ ap (λ (l : List (List ℕ)). whole l) (append-nil payloads)
+
+pub spelled-append : (before behind : List (List ℕ)) → spelled (before ++ behind) ≡ spelled before ++ spelled behind
+spelled-append [] behind = refl
+spelled-append (p ∷ ps) behind = ap (λ (l : List ℕ). group p ++ l) (spelled-append ps behind) ∙ sym (append_assoc (group p) (spelled ps) (spelled behind))
 
 closed_gate : (gate : ℕ) (rest : List ℕ) → gate ≢ 1 → found_in (gate ∷ rest) ≡ Closed
 closed_gate gate rest closed = let no : (gate == 1) ≡ false = ne_eqb gate 1 closed in rw no refl
@@ -108,7 +116,7 @@ reads bytes payloads small is =
 pub spells : (bytes : List ℕ) (payloads : List (List ℕ)) → length bytes < 2 ^ 64 → Holds bytes payloads → groups_of bytes ≡ whole payloads
 spells bytes payloads small holds =
     let behind = holds.gate ∷ holds.rest in
-    let long : length (spelled payloads ++ behind) < 2 ^ 64 = omega (arith, ap length holds.is, length-drop 10 bytes, small) in
+    let long : length (spelled payloads) < 2 ^ 64 = omega (arith, ap length holds.is, length-append (spelled payloads) behind, length-drop 10 bytes, small) in
     groups-drop 10 bytes
     ∙ ap (λ (l : List ℕ). groups_at 0 l) holds.is
     ∙ groups_read payloads behind long (omega arith)
@@ -165,7 +173,7 @@ broken_read bytes payloads small fits b =
     let end = 10 + length (spelled payloads) in
     let there : drop end bytes ≡ tail = sym (drop-drop (length (spelled payloads)) 10 bytes) ∙ ap (λ (l : List ℕ). drop (length (spelled payloads)) l) b.is ∙ drop_at (spelled payloads) tail (length (spelled payloads)) refl in
     let tail_small : AreBytes tail = rw there at (small_behind end bytes small) in
-    let long : length (spelled payloads ++ tail) < 2 ^ 64 = omega (arith, ap length b.is, length-drop 10 bytes, fits) in
+    let long : length (spelled payloads) < 2 ^ 64 = omega (arith, ap length b.is, length-append (spelled payloads) tail, length-drop 10 bytes, fits) in
     groups-drop 10 bytes
     ∙ ap (λ (l : List ℕ). groups_at 0 l) b.is
     ∙ groups_read payloads tail long (omega arith)

@@ -1,63 +1,42 @@
 -- What a crash leaves of a gated file.
-use Rattle.std.proofs.Common.{◌≡◌, ◌⊎◌, ℕ, ◌+◌, ◌<◌, ◌≤◌, ◌^◌, ◌==◌, Bool, true, false, List, [], ◌∷◌, ◌++◌, length, take, drop, get_or, inl, inr, refl, sym, ◌∙◌, ap, subst, arith, append_assoc, length-append, take-append-drop}
-use Rattle.std.proofs.lemmas.List.{take_at, take-take, drop_more, get_or-take, get_or-drop}
+use Rattle.std.proofs.Common.{◌≡◌, ◌⊎◌, ℕ, ◌+◌, ◌<◌, ◌≤◌, ◌^◌, ◌==◌, Bool, true, false, Result, Ok, Err, List, [], ◌∷◌, ◌++◌, length, take, drop, get_or, inl, inr, refl, sym, ◌∙◌, ap, subst, arith, append_assoc, length-append, take-append-drop}
+use Rattle.std.proofs.lemmas.List.{take_at, drop-drop, drop_more, get_or-take, get_or-drop}
 use Rattle.std.proofs.lemmas.Bool.{eqb-true}
 use Rattle.std.proofs.lemmas.Grind.{same_number_lists}
-use Rattle.hs_host.specs.Files.{Five, of, with_, piece, overwrite}
-use Rattle.hs_host.specs.Disk.{Pending, MayLeave, settled, written_at}
-use Rattle.hs_host.specs.Moments.{Moment, History, Since, OneFile, IsCut, IsSynced, disk_of}
-use Rattle.hs_host.proofs.Passing.{since_weaker}
+use Rattle.hs_host.specs.declared.file_kind.FileKind.{FileKind}
+use Rattle.hs_host.specs.Files.{Five, of, piece, overwrite}
+use Rattle.hs_host.specs.declared.host_fault.HostFault.{HostFault}
+use Rattle.hs_host.specs.Disk.{Pending, MayLeave, settled, written_at, cut_to}
+use Rattle.hs_host.specs.Prefixes.{KeepsPrefix}
+use Rattle.hs_host.specs.Moments.{Moment, History, OneFile, IsCut, IsSyncing, disk_of}
+use Rattle.hs_host.proofs.Changing.{same_disk}
 use Rattle.hs_host.proofs.Torn.{front_stays}
 use Rattle.hs_gate.specs.declared.gated.Gated.{Gated}
 use Rattle.hs_gate.specs.declared.found.Found.TheVariants.{Closed}
-use Rattle.hs_gate.specs.Groups.{eight_bytes, group, end_of, groups_of, and_group}
+use Rattle.hs_gate.specs.Groups.{spelled, end_of, groups_of, and_groups}
 use Rattle.hs_gate.specs.Gated.{IsGated, appended}
 use Rattle.hs_gate.specs.Scan.{found_in}
-use Rattle.hs_gate.specs.Crash.{IsCalm, IsAsBefore, IsBeforeOrAfter, BeginsWith, IsWriting, called, done}
+use Rattle.hs_gate.specs.Crash.{StandsOnDisk, IsAsBefore, IsBeforeOrAfter, BeginsWith, HasBehind, IsPut, IsWriting, called, done}
 use Rattle.hs_gate.proofs.Pieces.{take_same, length-piece, take-overwrite, drop-overwrite, length-overwrite, overwrite_before}
-use Rattle.hs_gate.proofs.Fronts.{end_within, groups_stay, groups_grow, front_groups, append_groups}
-use Rattle.hs_gate.proofs.Moments.{disk_is, one_weaker, one_on, settled_keeps, written_keeps, keeps_same, keeps_synced, keeps_cut, begins_synced, begins_cut}
-use Rattle.hs_gate.proofs.Writes.{of_written}
+use Rattle.hs_gate.proofs.Fronts.{end_within, groups_stay, groups_grow, front_groups, header_stays}
+use Rattle.hs_gate.proofs.Moments.{settled_keeps, written_keeps, cut_keeps}
 
--- what begins with the file up to the gate that ends its groups has the same groups
-pub as_before : (files : Five (List ℕ)) (gated : Gated) (left : List ℕ) → IsGated files gated → BeginsWith (gated.end + 1) (of files gated.file) left → IsAsBefore (of files gated.file) gated.end left
+-- what begins with the file up to the gate that ends its groups is read as it
+pub as_before : (files : Five (List ℕ)) (gated : Gated) (left : List ℕ) → IsGated files gated → BeginsWith (gated.end + 1) (of files gated.file) left → IsAsBefore (of files gated.file) left
 as_before files gated left stands begins =
     let bytes = of files gated.file in
     let end : gated.end ≡ end_of (groups_of bytes).payloads = ap (λ (g : Gated). g.end) stands.front.is in
     let same : take (end_of (groups_of bytes).payloads + 1) left ≡ take (end_of (groups_of bytes).payloads + 1) bytes = rw end at begins.0 in
     record {
-      long = omega (arith, begins.1);
-      front = take_same gated.end (gated.end + 1) left bytes begins.0 (omega arith);
+      header = header_stays left bytes stands.front.opened (take_same 10 (gated.end + 1) left bytes begins.0 (omega (arith, end))) (omega (arith, begins.1, end));
       groups = front_groups left bytes stands.front.opened stands.whole same (omega (arith, begins.1, end));
     }
 
-pub front_moments : (a b : History) (files : Five (List ℕ)) (gated : Gated) → IsGated files gated → Since (OneFile a.now gated.file (BeginsWith (gated.end + 1) (of files gated.file))) a b
-    → Since (OneFile a.now gated.file (IsAsBefore (of files gated.file) gated.end)) a b
-front_moments a b files gated stands ab = since_weaker ab (λ m one. one_weaker a.now m gated.file one (λ left begins. as_before files gated left stands begins))
-
-gate_within : (files : Five (List ℕ)) (gated : Gated) → IsGated files gated → gated.end + 1 ≤ length (of files gated.file)
+pub gate_within : (files : Five (List ℕ)) (gated : Gated) → IsGated files gated → gated.end + 1 ≤ length (of files gated.file)
 gate_within files gated stands = let lt = end_within files gated stands.front in omega (arith, lt)
 
--- a sync, and a cut behind the gate
-pub cut_moments : (a b c : History) (files : Five (List ℕ)) (gated : Gated) (len : ℕ) → IsGated files gated → gated.end + 1 ≤ len → Since (IsSynced a.now gated.file (of files gated.file)) a b
-    → IsSynced a.now gated.file (of files gated.file) b.now → Since (IsCut b.now gated.file len) b c → Since (OneFile a.now gated.file (IsAsBefore (of files gated.file) gated.end)) a c
-cut_moments a b c files gated len stands le synced now cut =
-    let n = gated.end + 1 in
-    let bytes = of files gated.file in
-    let within = gate_within files gated stands in
-    front_moments a c files gated stands
-    (one_on (BeginsWith n bytes) a b c gated.file (begins_synced a b gated.file n bytes within synced) (begins_cut b c gated.file len n bytes (keeps_synced a.now b.now gated.file n bytes within now) le cut))
-
-pub cut_calm : (before mid : Moment) (h : History) (files new : Five (List ℕ)) (gated : Gated) (len : ℕ) → IsGated files gated → gated.end + 1 ≤ len → IsSynced before gated.file (of files gated.file) mid → IsCut mid gated.file len h.now
-    → of new gated.file ≡ take (gated.end + 1) (of files gated.file) → IsCalm h new gated
-cut_calm before mid h files new gated len stands le synced cut is =
-    let n = gated.end + 1 in
-    let bytes = of files gated.file in
-    let keeps = keeps_cut mid h.now gated.file len n bytes (keeps_synced before mid gated.file n bytes (gate_within files gated stands) synced) le cut in
-    keeps_same (disk_of h.now gated.file) n (of new gated.file) bytes keeps (ap (λ (l : List ℕ). take n l) is ∙ take-take n n bytes (omega arith))
-
 -- what stands behind a write stays
-stays_behind : (synced left : List ℕ) (at count from size : ℕ) → MayLeave (written_at at count (settled synced)) left → at + count ≤ from → from + size ≤ length synced → piece from size left ≡ piece from size synced
+pub stays_behind : (synced left : List ℕ) (at count from size : ℕ) → MayLeave (written_at at count (settled synced)) left → at + count ≤ from → from + size ≤ length synced → piece from size left ≡ piece from size synced
 stays_behind synced left at count from size may behind within =
     let few : length (piece from size left) ≡ size = length-piece from size left (omega (arith, may.long, within)) in
     same_number_lists (piece from size left) (piece from size synced)
@@ -66,94 +45,117 @@ stays_behind synced left at count from size may behind within =
     let below : k < size = omega (arith, h, few) in
     rw (get_or-take, get_or-drop, get_or-take, get_or-drop) (may.same (from + k) (omega (arith, below, within)) (λ covered. elim covered [ inl here ↦ omega (arith, here.1, behind) | inr none ↦ none ])))
 
--- the length of a payload, the payload and a closed gate
-abbrev pub body : List ℕ → List ℕ
-body payload = eight_bytes (length payload) ++ payload ++ 0 ∷ []
+-- what was written one place behind a gate
+pub put_behind : (old : List ℕ) (at : ℕ) (bytes : List ℕ) → at < length old → piece (at + 1) (length bytes) (overwrite old (at + 1) bytes) ≡ bytes
+put_behind old at bytes within =
+    ap (λ (l : List ℕ). take (length bytes) l) (drop-overwrite old (at + 1) bytes (omega (arith, within)))
+    ∙ take_at bytes (drop (at + 1 + length bytes) old) (length bytes) refl
 
--- by the byte at the gate's place, the groups are as before or one more
-gate_case : (left bytes payload more : List ℕ) (gate : ℕ) (is_one : Bool) → (gate == 1) ≡ is_one → (groups_of bytes).is_broken ≡ false → length payload < 2 ^ 64
-    → take (end_of (groups_of bytes).payloads) left ≡ take (end_of (groups_of bytes).payloads) bytes → end_of (groups_of bytes).payloads < length left
-    → drop (end_of (groups_of bytes).payloads) left ≡ gate ∷ (body payload ++ more)
-    → (groups_of left ≡ groups_of bytes) ⊎ (groups_of left ≡ and_group payload (groups_of bytes))
-gate_case left bytes payload more gate true one closed small same long tail =
-    let opened : gate ≡ 1 = eqb-true gate 1 one in
-    inr (groups_grow left bytes payload more closed small same long
-    (tail ∙ ap (λ (g : ℕ). g ∷ (body payload ++ more)) opened ∙ ap (λ (l : List ℕ). 1 ∷ l) (append_assoc (eight_bytes (length payload) ++ payload) (0 ∷ []) more)))
-gate_case left bytes payload more gate false other closed small same long tail =
-    let there : found_in (gate ∷ (body payload ++ more)) ≡ Closed = rw other refl in
-    inl (groups_stay left bytes closed same long (ap found_in tail ∙ there))
-
--- a crash while the gate is written, once the group stands behind it
-gate_torn : (files : Five (List ℕ)) (gated : Gated) (payload staged left : List ℕ) → IsGated files gated → length payload < 2 ^ 64 → staged ≡ overwrite (of files gated.file) (gated.end + 1) (body payload)
-    → MayLeave (written_at gated.end 1 (settled staged)) left → IsBeforeOrAfter (of files gated.file) gated.end payload left
-gate_torn files gated payload staged left stands small staged_is may =
-    let bytes = of files gated.file in
-    let end = gated.end in
-    let end_is : end ≡ end_of (groups_of bytes).payloads = ap (λ (g : Gated). g.end) stands.front.is in
-    let within : end < length bytes = end_within files gated stands.front in
-    let size = length (body payload) in
-    let long : end + 1 + size ≤ length staged = omega (arith, ap length staged_is, length-overwrite bytes (end + 1) (body payload) (omega (arith, within))) in
-    let longer : end < length left = omega (arith, may.long, long) in
-    let staged_front : take end staged ≡ take end bytes =
-    take_same end (end + 1) staged bytes (ap (λ (l : List ℕ). take (end + 1) l) staged_is ∙ take-overwrite bytes (end + 1) (body payload) (omega (arith, within))) (omega arith) in
-    let keeps = written_keeps (settled staged) end 1 end bytes (settled_keeps staged bytes end (omega (arith, long)) staged_front) (omega arith) in
-    let front : take end left ≡ take end bytes = (front_stays (written_at end 1 (settled staged)) end bytes left keeps may).0 in
-    let there : piece (end + 1) size left ≡ body payload =
-    stays_behind staged left end 1 (end + 1) size may (omega arith) long
-    ∙ ap (λ (l : List ℕ). piece (end + 1) size l) staged_is
-    ∙ ap (λ (l : List ℕ). take size l) (drop-overwrite bytes (end + 1) (body payload) (omega (arith, within)))
-    ∙ take_at (body payload) (drop (end + 1 + size) bytes) size refl in
-    let more = drop size (drop (end + 1) left) in
-    let tail : drop end left ≡ get_or left end 0 ∷ (body payload ++ more) =
-    drop_more left end 0 longer ∙ ap (λ (l : List ℕ). get_or left end 0 ∷ l) (sym (take-append-drop size (drop (end + 1) left)) ∙ ap (λ (l : List ℕ). l ++ more) there) in
+-- a crash while a gate is written, once bytes stand behind it
+put_torn : (old staged left bytes : List ℕ) (at : ℕ) → at < length old → staged ≡ overwrite old (at + 1) bytes → MayLeave (written_at at 1 (settled staged)) left → HasBehind old at bytes left
+put_torn old staged left bytes at within staged_is may =
+    let long : at + 1 + length bytes ≤ length staged = omega (arith, ap length staged_is, length-overwrite old (at + 1) bytes (omega (arith, within))) in
+    let front : take at staged ≡ take at old =
+    take_same at (at + 1) staged old (ap (λ (l : List ℕ). take (at + 1) l) staged_is ∙ take-overwrite old (at + 1) bytes (omega (arith, within))) (omega arith) in
+    let keeps = written_keeps (settled staged) at 1 at old (settled_keeps staged old at (omega (arith, long)) front) (omega arith) in
     record {
-      long = longer;
-      front = front;
-      groups = gate_case left bytes payload more (get_or left end 0) (get_or left end 0 == 1) refl stands.whole small (rw end_is at front) (rw end_is at longer) (ap (λ (n : ℕ). drop n left) (sym end_is) ∙ tail);
+      long = omega (arith, may.long, long);
+      front = (front_stays (written_at at 1 (settled staged)) at old left keeps may).0;
+      there = stays_behind staged left at 1 (at + 1) (length bytes) may (omega arith) long ∙ ap (λ (l : List ℕ). piece (at + 1) (length bytes) l) staged_is ∙ put_behind old at bytes within;
     }
 
--- the file with the group
-appended_after : (files : Five (List ℕ)) (gated : Gated) (payload left : List ℕ) → IsGated files gated → length payload < 2 ^ 64 → left ≡ appended (of files gated.file) gated.end payload
-    → IsBeforeOrAfter (of files gated.file) gated.end payload left
-appended_after files gated payload left stands small is =
-    let bytes = of files gated.file in
-    let all = group payload ++ 0 ∷ [] in
-    let end_is : gated.end ≡ end_of (groups_of bytes).payloads = ap (λ (g : Gated). g.end) stands.front.is in
-    let within : gated.end < length bytes = end_within files gated stands.front in
+put_done : (old left bytes : List ℕ) (at : ℕ) → at < length old → left ≡ overwrite old at (1 ∷ bytes) → HasBehind old at bytes left
+put_done old left bytes at within is =
+    let le : at ≤ length old = omega (arith, within) in
     record {
-      long = omega (arith, ap length is, length-overwrite bytes gated.end all (omega (arith, within)), length-append (group payload) (0 ∷ []));
-      front = ap (λ (l : List ℕ). take gated.end l) is ∙ take-overwrite bytes gated.end all (omega (arith, within));
-      groups = inr (ap groups_of (is ∙ ap (λ (n : ℕ). appended bytes n payload) end_is) ∙ append_groups bytes payload stands.front.opened stands.whole small);
+      long = omega (arith, ap length is, length-overwrite old at (1 ∷ bytes) le);
+      front = ap (λ (l : List ℕ). take at l) is ∙ take-overwrite old at (1 ∷ bytes) le;
+      there =
+          ap (λ (l : List ℕ). piece (at + 1) (length bytes) l) is
+          ∙ ap (λ (l : List ℕ). take (length bytes) l) (sym (drop-drop 1 at (overwrite old at (1 ∷ bytes))) ∙ ap (λ (l : List ℕ). drop 1 l) (drop-overwrite old at (1 ∷ bytes) le))
+          ∙ take_at bytes (drop (at + length (1 ∷ bytes)) old) (length bytes) refl;
     }
 
-gate_moment : (before m : Moment) (files : Five (List ℕ)) (gated : Gated) (payload staged : List ℕ) → IsGated files gated → length payload < 2 ^ 64 → staged ≡ overwrite (of files gated.file) (gated.end + 1) (body payload)
-    → disk_of before gated.file ≡ settled staged → IsWriting before gated.file gated.end (1 ∷ []) staged m → OneFile before gated.file (IsBeforeOrAfter (of files gated.file) gated.end payload) m
-gate_moment before m files gated payload staged stands small staged_is quiet (called written) = record {
-  disk = written_at gated.end 1 (disk_of before gated.file);
+-- the moments while a gate is opened
+pub put_moment : (before m : Moment) (file : FileKind) (old staged bytes : List ℕ) (at : ℕ) → at < length old → staged ≡ overwrite old (at + 1) bytes → disk_of before file ≡ settled staged
+    → IsWriting before file at (1 ∷ []) staged m → OneFile before file (IsPut old at bytes) m
+put_moment before m file old staged bytes at within staged_is quiet (called written) = record {
+  disk = written_at at 1 (disk_of before file);
   is = written;
-  each = λ left leaves. gate_torn files gated payload staged left stands small staged_is (subst (λ (p : Pending). MayLeave (written_at gated.end 1 p) left) quiet leaves);
+  each = λ left leaves. inr (put_torn old staged left bytes at within staged_is (subst (λ (p : Pending). MayLeave (written_at at 1 p) left) quiet leaves));
 }
-gate_moment before m files gated payload staged stands small staged_is quiet (done synced) = record {
-  disk = settled (overwrite staged gated.end (1 ∷ []));
+put_moment before m file old staged bytes at within staged_is quiet (done synced) = record {
+  disk = settled (overwrite staged at (1 ∷ []));
   is = synced;
-  each = λ left leaves.
-      appended_after files gated payload left stands small
-      (leaves ∙ ap (λ (l : List ℕ). overwrite l gated.end (1 ∷ [])) staged_is ∙ overwrite_before (of files gated.file) gated.end 1 (body payload) (end_within files gated stands.front));
+  each = λ left leaves. inr (put_done old left bytes at within (leaves ∙ ap (λ (l : List ℕ). overwrite l at (1 ∷ [])) staged_is ∙ overwrite_before old at 1 bytes within));
 }
 
--- the moments while a group is written behind its closed gate
-pub staged_moments : (a b : History) (files : Five (List ℕ)) (gated : Gated) (payload : List ℕ) → IsGated files gated → Since (OneFile a.now gated.file (BeginsWith (gated.end + 1) (of files gated.file))) a b
-    → Since (OneFile a.now gated.file (IsBeforeOrAfter (of files gated.file) gated.end payload)) a b
-staged_moments a b files gated payload stands ab =
-    since_weaker ab (λ m one. one_weaker a.now m gated.file one (λ left begins. let stays = as_before files gated left stands begins in record { long = stays.long; front = stays.front; groups = inl stays.groups }))
+-- by the byte at the gate's place, the groups are as before or these more
+gate_case : (left old rest : List ℕ) (more : List (List ℕ)) (tail : List ℕ) (gate : ℕ) (is_one : Bool) → (gate == 1) ≡ is_one → (groups_of old).is_broken ≡ false → length (spelled more) < 2 ^ 64 → spelled more ≡ 1 ∷ tail
+    → take (end_of (groups_of old).payloads) left ≡ take (end_of (groups_of old).payloads) old → end_of (groups_of old).payloads < length left
+    → drop (end_of (groups_of old).payloads) left ≡ gate ∷ ((tail ++ 0 ∷ []) ++ rest)
+    → (groups_of left ≡ groups_of old) ⊎ (groups_of left ≡ and_groups more (groups_of old))
+gate_case left old rest more tail gate true one closed small is same long there =
+    inr (groups_grow left old rest more closed small same long
+    (there ∙ ap (λ (g : ℕ). g ∷ ((tail ++ 0 ∷ []) ++ rest)) (eqb-true gate 1 one) ∙ ap (λ (l : List ℕ). 1 ∷ l) (append_assoc tail (0 ∷ []) rest) ∙ ap (λ (l : List ℕ). l ++ 0 ∷ rest) (sym is)))
+gate_case left old rest more tail gate false other closed small is same long there =
+    let no : found_in (gate ∷ ((tail ++ 0 ∷ []) ++ rest)) ≡ Closed = rw other refl in
+    inl (groups_stay left old closed same long (ap found_in there ∙ no))
 
--- and then while its gate is opened
-pub gate_moments : (a b c : History) (files mid : Five (List ℕ)) (gated : Gated) (payload : List ℕ) → IsGated files gated → length payload < 2 ^ 64 → mid ≡ with_ files gated.file (overwrite (of files gated.file) (gated.end + 1) (body payload))
-    → Since (OneFile a.now gated.file (BeginsWith (gated.end + 1) (of files gated.file))) a b → IsSynced a.now gated.file (of mid gated.file) b.now → Since (IsWriting b.now gated.file gated.end (1 ∷ []) (of mid gated.file)) b c
-    → Since (OneFile a.now gated.file (IsBeforeOrAfter (of files gated.file) gated.end payload)) a c
-gate_moments a b c files mid gated payload stands small mid_is ab synced bc =
-    let staged = of mid gated.file in
-    let staged_is = of_written files mid gated.file (overwrite (of files gated.file) (gated.end + 1) (body payload)) mid_is in
-    let quiet = disk_is a.now b.now gated.file (settled staged) synced in
-    one_on (IsBeforeOrAfter (of files gated.file) gated.end payload) a b c gated.file (staged_moments a b files gated payload stands ab)
-    (since_weaker bc (λ m writing. gate_moment b.now m files gated payload staged stands small staged_is quiet writing))
+-- what is put behind the gate that ends the groups
+pub put_groups : (files : Five (List ℕ)) (gated : Gated) (more : List (List ℕ)) (tail left : List ℕ) → IsGated files gated → length (spelled more) < 2 ^ 64 → spelled more ≡ 1 ∷ tail
+    → IsPut (of files gated.file) gated.end (tail ++ 0 ∷ []) left → IsBeforeOrAfter (of files gated.file) more left
+put_groups files gated more tail left stands small is (inl begins) = let stays = as_before files gated left stands begins in record { header = stays.header; groups = inl stays.groups }
+put_groups files gated more tail left stands small is (inr has) =
+    let old = of files gated.file in
+    let end = gated.end in
+    let size = length (tail ++ 0 ∷ []) in
+    let end_is : end ≡ end_of (groups_of old).payloads = ap (λ (g : Gated). g.end) stands.front.is in
+    let longer : end < length left = omega (arith, has.long) in
+    let rest = drop size (drop (end + 1) left) in
+    let there : drop end left ≡ get_or left end 0 ∷ ((tail ++ 0 ∷ []) ++ rest) =
+    drop_more left end 0 longer ∙ ap (λ (l : List ℕ). get_or left end 0 ∷ l) (sym (take-append-drop size (drop (end + 1) left)) ∙ ap (λ (l : List ℕ). l ++ rest) has.there) in
+    record {
+      header = header_stays left old stands.front.opened (take_same 10 end left old has.front (omega (arith, end_is))) (omega (arith, has.long, end_is));
+      groups = gate_case left old rest more tail (get_or left end 0) (get_or left end 0 == 1) refl stands.whole small is (rw end_is at has.front) (rw end_is at longer) (ap (λ (n : ℕ). drop n left) (sym end_is) ∙ there);
+    }
+
+-- and what is then read
+pub append_put : (old : List ℕ) (end : ℕ) (more : List (List ℕ)) (tail new : List ℕ) → spelled more ≡ 1 ∷ tail → new ≡ overwrite old end (1 ∷ (tail ++ 0 ∷ [])) → new ≡ appended old end more
+append_put old end more tail new is put = put ∙ ap (λ (l : List ℕ). overwrite old end (l ++ 0 ∷ [])) (sym is)
+
+pub spelled_first : (more : List (List ℕ)) → 0 < length more → spelled more ≡ 1 ∷ drop 1 (spelled more)
+spelled_first [] some = absurd (omega (arith, some))
+spelled_first (p ∷ ps) some = refl
+
+-- a file that was just synced stands on the disk
+pub settled_stands : (h : History) (files : Five (List ℕ)) (gated : Gated) → IsGated files gated → disk_of h.now gated.file ≡ settled (of files gated.file) → StandsOnDisk h files gated
+settled_stands h files gated stands quiet = record {
+  stands = stands;
+  calm = subst (λ (p : Pending). KeepsPrefix p (gated.end + 1) (of files gated.file)) (sym quiet) (settled_keeps (of files gated.file) (of files gated.file) (gated.end + 1) (gate_within files gated stands) refl);
+}
+
+-- the sync of a file that was read, which may fail
+pub settle_synced : {T : Type 0} (before m : Moment) (files : Five (List ℕ)) (gated : Gated) (result : Result T HostFault) → IsGated files gated → IsSyncing before gated.file (of files gated.file) result m
+    → OneFile before gated.file (λ left. KeepsPrefix (disk_of before gated.file) (gated.end + 1) (of files gated.file) → IsAsBefore (of files gated.file) left) m
+settle_synced before m files gated (Ok x) stands is = record {
+  disk = settled (of files gated.file);
+  is = is;
+  each = λ left leaves calm. as_before files gated left stands
+      (front_stays (settled (of files gated.file)) (gated.end + 1) (of files gated.file) left (settled_keeps (of files gated.file) (of files gated.file) (gated.end + 1) (gate_within files gated stands) refl) leaves);
+}
+settle_synced before m files gated (Err e) stands is = record {
+  disk = disk_of before gated.file;
+  is = same_disk before m gated.file is;
+  each = λ left leaves calm. as_before files gated left stands (front_stays (disk_of before gated.file) (gated.end + 1) (of files gated.file) left calm leaves);
+}
+
+-- and then its cut behind the gate that ends its groups
+pub settle_cut : {P : Type 0} (before m : Moment) (files : Five (List ℕ)) (gated : Gated) (len : ℕ) → IsGated files gated → gated.end + 1 ≤ len → KeepsPrefix (disk_of before gated.file) (gated.end + 1) (of files gated.file) → IsCut before gated.file len m
+    → OneFile before gated.file (λ left. P → IsAsBefore (of files gated.file) left) m
+settle_cut before m files gated len stands le keeps is = record {
+  disk = cut_to len (disk_of before gated.file);
+  is = is;
+  each = λ left leaves any. as_before files gated left stands
+      (front_stays (cut_to len (disk_of before gated.file)) (gated.end + 1) (of files gated.file) left (cut_keeps (disk_of before gated.file) len (gated.end + 1) (of files gated.file) keeps le) leaves);
+}

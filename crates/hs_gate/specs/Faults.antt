@@ -1,5 +1,5 @@
 -- Faults of gated files.
-use Rattle.std.specs.Prelude.{ℕ, ◌≤◌, Result, Ok, Err, IsErrOf}
+use Rattle.std.specs.Prelude.{◌≡◌, ℕ, Result, Ok, Err}
 use Rattle.hs_host.specs.declared.host_fault.HostFault.{HostFault}
 use Rattle.hs_host.specs.declared.host_fault.HostFault.TheVariants as host
 use Rattle.hs_host.specs.Host.{Rose}
@@ -10,14 +10,16 @@ abbrev pub gate_fault_of : HostFault → GateFault
 gate_fault_of host.Fault = Disk
 gate_fault_of host.NoMemory = NoMemory
 
--- A count of faults never falls, and a call answers `Disk` only where it rose.
-pub record HasGateCause {T : Type 0} (before now : ℕ) (result : Result T GateFault) : Type 0 where
-  pub kept : before ≤ now
-  pub disk : IsErrOf result Disk → Rose before now
+-- A call answers `Disk` only where the count of faults rose, and at every other answer it is as before.
+abbrev pub HasGateCause : {T : Type 0} → ℕ → ℕ → Result T GateFault → Type 0
+HasGateCause before now (Ok _) = now ≡ before
+HasGateCause before now (Err Disk) = Rose before now
+HasGateCause before now (Err (Broken _)) = now ≡ before
+HasGateCause before now (Err NoMemory) = now ≡ before
 
--- A call doesn't answer `Broken`.
-abbrev pub IsNeverBroken : {T : Type 0} → Result T GateFault → Type 0
-IsNeverBroken (Ok _) = Unit {0}
-IsNeverBroken (Err Disk) = Unit {0}
-IsNeverBroken (Err (Broken _)) = ⊥
-IsNeverBroken (Err NoMemory) = Unit {0}
+-- The same of a call that reads no group, and so never answers `Broken`.
+abbrev pub FailsWith : {T : Type 0} → ℕ → ℕ → Result T GateFault → Type 0
+FailsWith before now (Ok _) = now ≡ before
+FailsWith before now (Err Disk) = Rose before now
+FailsWith before now (Err (Broken _)) = ⊥
+FailsWith before now (Err NoMemory) = now ≡ before

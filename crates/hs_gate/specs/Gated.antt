@@ -7,7 +7,7 @@ use Rattle.hs_gate.specs.declared.gate_fault.GateFault.TheVariants.{Disk, Broken
 use Rattle.hs_gate.specs.declared.gated.Front.{Front}
 use Rattle.hs_gate.specs.declared.gated.Gated.{Gated}
 use Rattle.hs_gate.specs.declared.part.Part.{Part}
-use Rattle.hs_gate.specs.Groups.{is_open, is_born, epoch_of, group, eight_bytes, end_of, ahead, groups_at, groups_of}
+use Rattle.hs_gate.specs.Groups.{is_open, is_born, epoch_of, eight_bytes, end_of, ahead, groups_at, groups_of, spelled}
 
 -- an open file of these bytes with these groups
 abbrev pub gated_of : FileKind → List ℕ → List (List ℕ) → Gated
@@ -63,13 +63,13 @@ abbrev pub TakesPart : List ℕ → ℕ → Option Part → Type 0
 TakesPart bytes at None = (groups_at at bytes).payloads ≡ []
 TakesPart bytes at (Some part) = (groups_at at bytes ≡ ahead part.payload (groups_at part.next bytes)) × IsPlace bytes part.next
 
--- a file with one more group of so many bytes
-abbrev pub grown : Gated → ℕ → Gated
-grown gated size = record gated { groups = gated.groups + 1; end = gated.end + (9 + size) }
+-- a file with these groups more
+abbrev pub grown : Gated → List (List ℕ) → Gated
+grown gated more = record gated { groups = gated.groups + length more; end = gated.end + length (spelled more) }
 
--- its bytes: the group stands in place of its closed gate, and a closed gate behind it
-abbrev pub appended : List ℕ → ℕ → List ℕ → List ℕ
-appended bytes end payload = overwrite bytes end (group payload ++ 0 ∷ [])
+-- its bytes: the groups stand from the place of the closed gate on, and a closed gate behind them
+abbrev pub appended : List ℕ → ℕ → List (List ℕ) → List ℕ
+appended bytes end more = overwrite bytes end (spelled more ++ 0 ∷ [])
 
 -- a file without groups, and its bytes
 abbrev pub empty : FileKind → ℕ → Gated
@@ -84,7 +84,3 @@ created = 1 ∷ 1 ∷ eight_bytes 1 ++ 0 ∷ []
 -- what a creation that failed may leave of an unborn file: one that still isn't born, or a whole one
 abbrev pub IsUnbornOrCreated : List ℕ → Type 0
 IsUnbornOrCreated bytes = (is_born bytes ≡ false) ⊎ (bytes ≡ created)
-
--- what a start that failed may leave of a file: its bytes, or one that isn't open, or a whole one
-abbrev pub IsSameOrClosedOrStarted : List ℕ → ℕ → List ℕ → Type 0
-IsSameOrClosedOrStarted old epoch new = (new ≡ old) ⊎ (is_open new ≡ false) ⊎ (new ≡ started old epoch)

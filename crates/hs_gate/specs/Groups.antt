@@ -73,6 +73,6 @@ groups_at zero (gate ∷ behind) =
 abbrev pub groups_of : List ℕ → Groups
 groups_of bytes = groups_at 10 bytes
 
--- one group more
-abbrev pub and_group : List ℕ → Groups → Groups
-and_group payload groups = record groups { payloads = groups.payloads ++ payload ∷ [] }
+-- these groups more
+abbrev pub and_groups : List (List ℕ) → Groups → Groups
+and_groups more groups = record groups { payloads = groups.payloads ++ more }

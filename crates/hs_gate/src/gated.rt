@@ -1,19 +1,18 @@
 // A gated file that was read.
-ghost use Rattle.std.specs.Prelude.{◌≡◌, ◌↔◌, ℕ, ◌+◌, ◌-◌, ◌≤◌, length, take, None, Err, IfOk, IfSome, OnOk, OnErr, IsErrOf};
-ghost use Rattle.hs_host.specs.Files.{of, with_, piece, IsOpen, IsHonest};
-ghost use Rattle.hs_host.specs.Moments.{Since, IsStill, OneFile};
-ghost use Rattle.hs_gate.specs.Changes.{IsOnly};
-ghost use Rattle.hs_gate.specs.Crash.{IsCalm, IsAsBefore, IsBeforeOrAfter};
-ghost use Rattle.hs_gate.specs.Faults.{HasGateCause, IsNeverBroken};
-ghost use Rattle.hs_gate.specs.Groups.{groups_of, and_group};
+ghost use Rattle.std.specs.Prelude.{◌≡◌, ◌↔◌, ℕ, ◌+◌, ◌-◌, ◌^◌, ◌<◌, ◌≤◌, [], ◌∷◌, length, take, None, Err, IfOk, IfSome, OnOk, OnErr, IsErrOf};
+ghost use Rattle.hs_host.specs.Files.{of, piece, IsOpen};
+ghost use Rattle.hs_host.specs.Used.{Told, ReadsFiles, ChangesFile};
+ghost use Rattle.hs_gate.specs.Crash.{IsCalm, StandsOnDisk, IsAsBefore, IsBeforeOrAfter, HasMore};
+ghost use Rattle.hs_gate.specs.Faults.{HasGateCause, FailsWith};
 ghost use Rattle.hs_gate.specs.Spelled.{HasNoGroup};
 
+use crate::batch::Batch;
 use crate::found::{Found, look};
 use crate::gate_fault::GateFault;
 use crate::part::Part;
 use crate::reading::{read_front, read_payload};
-use crate::writing::{write_payload, write_synced};
-use hs_host::{FileKind, Host};
+use crate::writing::write_behind_gate;
+use hs_host::{FileKind, Host, cut, sync};
 use std::alloc::Global;
 
 /// As many bytes of a group as are read at once.
@@ -50,7 +49,6 @@ impl Gated {
     /// It answers none exactly where `at` is `end`. `Broken(at)` comes only where the bytes from there to `end`,
     /// as they were read, are no whole group with one more byte behind it, and never over an honest host. `Disk`
     /// comes only where a call of the host failed, and `NoMemory` is free.
-    #[tactic(auto, using(crate::proofs::Moments::still_on))]
     pub fn part<H: Host>(
         &self,
         alloc: Global,
@@ -59,22 +57,16 @@ impl Gated {
     ) -> Result<Option<Part>, GateFault>
         requires opened { IsOpen (H.standing host.old) }
         requires within { at ≤ self.now.end }
-        requires front { H.tells → IsHonest (H.standing host.old) → IsFront (H.files host.old) self.now }
-        requires place { H.tells → IsHonest (H.standing host.old) → IsPlace (of (H.files host.old) self.now.file) at }
-        ensures payload { H.tells → IsHonest (H.standing host.old) → IfOk result (TakesPart (of (H.files host.old) self.now.file) at) }
+        requires front { Told H.Source H.Host.own host.old → IsFront (H.files host.old) self.now }
+        requires place { Told H.Source H.Host.own host.old → IsPlace (of (H.files host.old) self.now.file) at }
+        ensures payload { Told H.Source H.Host.own host.old → IfOk result (TakesPart (of (H.files host.old) self.now.file) at) }
         ensures none { IfOk result (λ part. part ≡ None ↔ at ≡ self.now.end) }
         ensures next { IfOk result (λ part. IfSome part (λ p. (p.next ≡ at + (9 + length p.payload)) × (p.next ≤ self.now.end))) }
-        ensures whole { H.tells → IsHonest (H.standing host.old) → IsNeverBroken result }
+        ensures whole { Told H.Source H.Host.own host.old → (number : ℕ) → IsErrOf result (GateFault.Broken number) → ⊥ }
         ensures broken { (number : ℕ) → IsErrOf result (GateFault.Broken number) → number ≡ at }
         ensures no_group { H.tells → (number : ℕ) → IsErrOf result (GateFault.Broken number) → HasNoGroup (piece at (self.now.end - at + 1) (of (H.files host.new) self.now.file)) }
-        ensures files { H.tells → IsHonest (H.standing host.old) → H.files host.new ≡ H.files host.old }
-        ensures moments { H.tells → IsHonest (H.standing host.old) → Since (IsStill (H.history host.old).now) (H.history host.old) (H.history host.new) }
+        ensures reads { ReadsFiles H.Source H.Host.own host.old host.new }
         ensures cause { HasGateCause (H.disk_faults host.old) (H.disk_faults host.new) result }
-        ensures standing { H.standing host.new ≡ H.standing host.old }
-        ensures input { H.unread host.new ≡ H.unread host.old }
-        ensures input_faults { H.input_faults host.new ≡ H.input_faults host.old }
-        ensures output { H.written host.new ≡ H.written host.old }
-        ensures output_faults { H.output_faults host.new ≡ H.output_faults host.old }
     {
         let behind = self.end - at;
         if behind == 0 {
@@ -99,48 +91,70 @@ impl Gated {
     /// Adds a group: its length, its payload and a closed gate are written and synced, then its gate is
     /// opened and synced. It takes no memory of its own.
     ///
-    /// Where the file stood on the disk up to the gate that ends its groups, a crash at any moment leaves its
-    /// groups as they were, or these and the new one. After an `Ok` it stands there up to the new gate.
+    /// At each moment on the way a crash leaves the file with the same header, and with its groups as they were, or
+    /// with these and the new one. After an `Ok` it has the new one, and stands on the disk up to the gate behind it.
     ///
     /// After an `Err` this is unchanged, and the file is to be read again. `Disk` comes only where a call of
     /// the host failed. `NoMemory` is handed on from the host, and comes where the places don't fit in 64 bits.
-    #[tactic(auto, using(crate::proofs::Fronts::end_within))]
     pub fn append<H: Host>(&mut self, host: &mut H, payload: &[u8]) -> Result<(), GateFault>
         requires opened { IsOpen (H.standing host.old) }
-        requires gated { H.tells → IsHonest (H.standing host.old) → IsGated (H.files host.old) self.old }
-        ensures ok { OnOk result (self.new ≡ grown self.old (length payload.now)) }
+        requires stands { Told H.Source H.Host.own host.old → StandsOnDisk (H.history host.old) (H.files host.old) self.old }
+        ensures changes { ChangesFile H.Source H.Host.own self.old.file (IsBeforeOrAfter (of (H.files host.old) self.old.file) (payload.now ∷ [])) host.old host.new }
+        ensures fails { FailsWith (H.disk_faults host.old) (H.disk_faults host.new) result }
+        ensures ok { OnOk result (self.new ≡ grown self.old (payload.now ∷ [])) }
         ensures err { OnErr result (self.new ≡ self.old) }
-        ensures gated { H.tells → IsHonest (H.standing host.old) → OnOk result (IsGated (H.files host.new) self.new) }
-        ensures groups { H.tells → IsHonest (H.standing host.old) → OnOk result (groups_of (of (H.files host.new) self.old.file) ≡ and_group payload.now (groups_of (of (H.files host.old) self.old.file))) }
-        ensures at_rest { H.tells → IsHonest (H.standing host.old) → OnOk result (IsAtRest (H.files host.old) self.old → IsAtRest (H.files host.new) self.new) }
-        ensures bytes { H.tells → IsHonest (H.standing host.old) → OnOk result (of (H.files host.new) self.old.file ≡ appended (of (H.files host.old) self.old.file) self.old.end payload.now) }
-        ensures before { H.tells → IsHonest (H.standing host.old) → OnOk result (take self.old.end (of (H.files host.new) self.old.file) ≡ take self.old.end (of (H.files host.old) self.old.file)) }
-        ensures others { H.tells → IsHonest (H.standing host.old) → IsOnly (H.files host.old) self.old.file (H.files host.new) }
-        ensures moments { H.tells → IsHonest (H.standing host.old) → IsCalm (H.history host.old) (H.files host.old) self.old → Since (OneFile (H.history host.old).now self.old.file (IsBeforeOrAfter (of (H.files host.old) self.old.file) self.old.end payload.now)) (H.history host.old) (H.history host.new) }
-        ensures calm { H.tells → IsHonest (H.standing host.old) → OnOk result (IsCalm (H.history host.new) (H.files host.new) self.new) }
-        ensures cause { HasGateCause (H.disk_faults host.old) (H.disk_faults host.new) result }
-        ensures whole { IsNeverBroken result }
-        ensures standing { H.standing host.new ≡ H.standing host.old }
-        ensures input { H.unread host.new ≡ H.unread host.old }
-        ensures input_faults { H.input_faults host.new ≡ H.input_faults host.old }
-        ensures output { H.written host.new ≡ H.written host.old }
-        ensures output_faults { H.output_faults host.new ≡ H.output_faults host.old }
+        ensures bytes { Told H.Source H.Host.own host.old → OnOk result (of (H.files host.new) self.old.file ≡ appended (of (H.files host.old) self.old.file) self.old.end (payload.now ∷ [])) }
+        ensures after { Told H.Source H.Host.own host.old → OnOk result (HasMore (of (H.files host.old) self.old.file) (payload.now ∷ []) (of (H.files host.new) self.old.file)) }
+        ensures at_rest { Told H.Source H.Host.own host.old → OnOk result (IsAtRest (H.files host.old) self.old → IsAtRest (H.files host.new) self.new) }
+        ensures stands { Told H.Source H.Host.own host.old → OnOk result (StandsOnDisk (H.history host.new) (H.files host.new) self.new) }
     {
-        let grown = self.grown(payload)?;
-        write_payload(host, self.file, self.end + 1, payload)?;
-        write_synced(host, self.file, self.end, &[1])?;
+        let size = payload.len() as u64;
+        let added = sum(9, size)?;
+        let grown = self.grown(1, added)?;
+        let length = size.to_be_bytes();
+        write_behind_gate(host, self.file, self.end, &length, payload)?;
         *self = grown;
         Ok(())
     }
 
-    // What it will be with one more group. An `Err` is that the places don't fit in 64 bits.
-    fn grown(&self, payload: &[u8]) -> Result<Gated, GateFault>
-        ensures ok { IfOk result (λ gated. gated ≡ grown self.now (length payload.now)) }
-        ensures whole { IsNeverBroken result }
-        ensures memory { IsErrOf result GateFault.Disk → ⊥ }
+    /// Adds several groups behind one closed gate: all of them but their first gate, and a closed gate behind them, are
+    /// written and synced, then that first gate is opened and synced. The file's bytes are as if each had been added
+    /// alone (`groups_are_added_one_by_one`). It takes no memory of its own.
+    ///
+    /// At each moment on the way a crash leaves the file with the same header, and with its groups as they were, or
+    /// with these and all of the new ones. After an `Ok` it has them all, and stands on the disk up to the gate behind
+    /// them.
+    ///
+    /// After an `Err` this is unchanged, and the file is to be read again. `Disk` comes only where a call of
+    /// the host failed. `NoMemory` is handed on from the host, and comes where the places don't fit in 64 bits.
+    pub fn append_all<H: Host>(&mut self, host: &mut H, batch: &Batch) -> Result<(), GateFault>
+        requires opened { IsOpen (H.standing host.old) }
+        requires some { 0 < length batch.now }
+        requires stands { Told H.Source H.Host.own host.old → StandsOnDisk (H.history host.old) (H.files host.old) self.old }
+        ensures changes { ChangesFile H.Source H.Host.own self.old.file (IsBeforeOrAfter (of (H.files host.old) self.old.file) batch.now) host.old host.new }
+        ensures fails { FailsWith (H.disk_faults host.old) (H.disk_faults host.new) result }
+        ensures ok { OnOk result (self.new ≡ grown self.old batch.now) }
+        ensures err { OnErr result (self.new ≡ self.old) }
+        ensures bytes { Told H.Source H.Host.own host.old → OnOk result (of (H.files host.new) self.old.file ≡ appended (of (H.files host.old) self.old.file) self.old.end batch.now) }
+        ensures after { Told H.Source H.Host.own host.old → OnOk result (HasMore (of (H.files host.old) self.old.file) batch.now (of (H.files host.new) self.old.file)) }
+        ensures at_rest { Told H.Source H.Host.own host.old → OnOk result (IsAtRest (H.files host.old) self.old → IsAtRest (H.files host.new) self.new) }
+        ensures stands { Told H.Source H.Host.own host.old → OnOk result (StandsOnDisk (H.history host.new) (H.files host.new) self.new) }
     {
-        let groups = sum(self.groups, 1)?;
-        let size = sum(9, payload.len() as u64)?;
+        let size = batch.spelled().len() as u64;
+        let grown = self.grown(batch.count(), size)?;
+        let behind = batch.behind_first_gate();
+        write_behind_gate(host, self.file, self.end, &[], behind)?;
+        *self = grown;
+        Ok(())
+    }
+
+    // What it will be with more groups, so many and of so many bytes. An `Err` is that the places don't fit in 64 bits.
+    fn grown(&self, count: u64, size: u64) -> Result<Gated, GateFault>
+        ensures ok { IfOk result (λ gated. gated ≡ record self.now { groups = self.now.groups + count; end = self.now.end + size }) }
+        ensures fits { IfOk result (λ gated. self.now.end + size < 2 ^ 64) }
+        ensures err { OnErr result (result ≡ Err GateFault.NoMemory) }
+    {
+        let groups = sum(self.groups, count)?;
         let end = sum(self.end, size)?;
         Ok(Gated {
             file: self.file,
@@ -152,32 +166,25 @@ impl Gated {
 
     /// Brings a file that was read to the disk, and cuts off what stands behind the gate that ends its groups.
     ///
-    /// Where the file stood on the disk up to that gate, a crash at any moment leaves its groups as they were.
-    /// After an `Ok` it stands there.
+    /// Where the file stood on the disk up to that gate, a crash at any moment leaves it with the same header and the
+    /// same groups. After an `Ok` it stands there, and nothing stands behind that gate.
     ///
     /// `Disk` comes only where a call of the host failed. `NoMemory` is handed on from the host, and comes
     /// where the places don't fit in 64 bits.
     pub fn settle<H: Host>(&self, host: &mut H) -> Result<(), GateFault>
         requires opened { IsOpen (H.standing host.old) }
-        requires gated { H.tells → IsHonest (H.standing host.old) → IsGated (H.files host.old) self.now }
-        ensures ok { H.tells → IsHonest (H.standing host.old) → OnOk result (H.files host.new ≡ with_ (H.files host.old) self.now.file (take (self.now.end + 1) (of (H.files host.old) self.now.file))) }
-        ensures err { H.tells → IsHonest (H.standing host.old) → OnErr result (H.files host.new ≡ H.files host.old) }
-        ensures gated { H.tells → IsHonest (H.standing host.old) → IsGated (H.files host.new) self.now }
-        ensures at_rest { H.tells → IsHonest (H.standing host.old) → OnOk result (IsAtRest (H.files host.new) self.now) }
-        ensures groups { H.tells → IsHonest (H.standing host.old) → groups_of (of (H.files host.new) self.now.file) ≡ groups_of (of (H.files host.old) self.now.file) }
-        ensures moments { H.tells → IsHonest (H.standing host.old) → IsCalm (H.history host.old) (H.files host.old) self.now → Since (OneFile (H.history host.old).now self.now.file (IsAsBefore (of (H.files host.old) self.now.file) self.now.end)) (H.history host.old) (H.history host.new) }
-        ensures calm { H.tells → IsHonest (H.standing host.old) → OnOk result (IsCalm (H.history host.new) (H.files host.new) self.now) }
-        ensures cause { HasGateCause (H.disk_faults host.old) (H.disk_faults host.new) result }
-        ensures whole { IsNeverBroken result }
-        ensures standing { H.standing host.new ≡ H.standing host.old }
-        ensures input { H.unread host.new ≡ H.unread host.old }
-        ensures input_faults { H.input_faults host.new ≡ H.input_faults host.old }
-        ensures output { H.written host.new ≡ H.written host.old }
-        ensures output_faults { H.output_faults host.new ≡ H.output_faults host.old }
+        requires gated { Told H.Source H.Host.own host.old → IsGated (H.files host.old) self.now }
+        ensures changes { ChangesFile H.Source H.Host.own self.now.file (λ left. IsCalm (H.history host.old) (H.files host.old) self.now → IsAsBefore (of (H.files host.old) self.now.file) left) host.old host.new }
+        ensures fails { FailsWith (H.disk_faults host.old) (H.disk_faults host.new) result }
+        ensures same { Told H.Source H.Host.own host.old → IsAsBefore (of (H.files host.old) self.now.file) (of (H.files host.new) self.now.file) }
+        ensures bytes { Told H.Source H.Host.own host.old → OnOk result (of (H.files host.new) self.now.file ≡ take (self.now.end + 1) (of (H.files host.old) self.now.file)) }
+        ensures err { Told H.Source H.Host.own host.old → OnErr result (H.files host.new ≡ H.files host.old) }
+        ensures at_rest { Told H.Source H.Host.own host.old → OnOk result (IsAtRest (H.files host.new) self.now) }
+        ensures stands { Told H.Source H.Host.own host.old → OnOk result (StandsOnDisk (H.history host.new) (H.files host.new) self.now) }
     {
         let length = sum(self.end, 1)?;
-        host.sync(self.file)?;
-        host.cut(self.file, length)?;
+        sync(host, self.file)?;
+        cut(host, self.file, length)?;
         Ok(())
     }
 }

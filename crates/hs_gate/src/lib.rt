@@ -10,6 +10,7 @@
 //! While a file is made anew, nothing is promised of what a crash leaves of it.
 #![tactic(auto)]
 
+mod batch;
 mod found;
 mod gate_fault;
 mod gated;
@@ -19,12 +20,12 @@ mod read;
 mod reading;
 mod scan;
 mod start;
-#[cfg(test)]
-mod tests;
 mod window;
 mod writing;
 
+pub use batch::Batch;
 pub use gate_fault::GateFault;
 pub use gated::{Front, Gated};
-pub use laws::groups_are_spelled;
+pub use laws::{groups_are_added_one_by_one, groups_are_spelled, rewritten_files_are_read};
 pub use part::Part;
+pub use start::rewrite;

@@ -1,15 +1,15 @@
 // Reads a gated file.
 ghost use Rattle.std.specs.Prelude.{◌≡◌, ◌+◌, ◌*◌, ◌≤◌, IfOk, IfSome};
-ghost use Rattle.hs_host.specs.Files.{of, IsOpen, IsHonest};
-ghost use Rattle.hs_host.specs.Moments.{Since, IsStill};
-ghost use Rattle.hs_gate.specs.Faults.{HasGateCause, IsNeverBroken};
+ghost use Rattle.hs_host.specs.Files.{of, IsOpen};
+ghost use Rattle.hs_host.specs.Used.{Told, ReadsFiles};
+ghost use Rattle.hs_gate.specs.Faults.{HasGateCause, FailsWith};
 
 use crate::found::number;
 use crate::gate_fault::GateFault;
 use crate::gated::{Front, Gated};
 use crate::scan::{Ending, FIRST_PLACE};
 use crate::window::Window;
-use hs_host::{FileKind, Host};
+use hs_host::{FileKind, Host, len};
 use std::alloc::Global;
 
 impl Gated {
@@ -26,18 +26,12 @@ impl Gated {
         file: FileKind,
     ) -> Result<Option<Gated>, GateFault>
         requires { IsOpen (H.standing host.old) }
-        ensures reading { H.tells → IsHonest (H.standing host.old) → Answers (whole_or_broken (reading_of file (of (H.files host.old) file))) result }
-        ensures gated { H.tells → IsHonest (H.standing host.old) → IfOk result (λ gated. IfSome gated (IsGated (H.files host.new))) }
+        ensures reading { Told H.Source H.Host.own host.old → Answers (whole_or_broken (reading_of file (of (H.files host.old) file))) result }
+        ensures gated { Told H.Source H.Host.own host.old → IfOk result (λ gated. IfSome gated (IsGated (H.files host.new))) }
         ensures room { IfOk result (λ gated. IfSome gated (λ g. HasRoom g)) }
         ensures file { IfOk result (λ gated. IfSome gated (λ g. g.file ≡ file)) }
-        ensures files { H.tells → IsHonest (H.standing host.old) → H.files host.new ≡ H.files host.old }
-        ensures moments { H.tells → IsHonest (H.standing host.old) → Since (IsStill (H.history host.old).now) (H.history host.old) (H.history host.new) }
+        ensures reads { ReadsFiles H.Source H.Host.own host.old host.new }
         ensures cause { HasGateCause (H.disk_faults host.old) (H.disk_faults host.new) result }
-        ensures standing { H.standing host.new ≡ H.standing host.old }
-        ensures input { H.unread host.new ≡ H.unread host.old }
-        ensures input_faults { H.input_faults host.new ≡ H.input_faults host.old }
-        ensures output { H.written host.new ≡ H.written host.old }
-        ensures output_faults { H.output_faults host.new ≡ H.output_faults host.old }
     {
         let Some(front) = Gated::front(alloc, host, file)? else {
             return Ok(None);
@@ -52,28 +46,20 @@ impl Gated {
     ///
     /// It answers none exactly where the file isn't open. `Disk` comes only where a call of the host failed,
     /// and `NoMemory` is free.
-    #[tactic(auto, using(crate::proofs::Moments::still_on))]
     pub fn front<H: Host>(
         alloc: Global,
         host: &mut H,
         file: FileKind,
     ) -> Result<Option<Front>, GateFault>
         requires { IsOpen (H.standing host.old) }
-        ensures reading { H.tells → IsHonest (H.standing host.old) → IfOk result (λ front. front ≡ reading_of file (of (H.files host.old) file)) }
-        ensures front { H.tells → IsHonest (H.standing host.old) → IfOk result (λ front. IfSome front (λ f. IsFront (H.files host.new) f.gated)) }
+        ensures reading { Told H.Source H.Host.own host.old → IfOk result (λ front. front ≡ reading_of file (of (H.files host.old) file)) }
+        ensures front { Told H.Source H.Host.own host.old → IfOk result (λ front. IfSome front (λ f. IsFront (H.files host.new) f.gated)) }
         ensures room { IfOk result (λ front. IfSome front (λ f. HasRoom f.gated)) }
         ensures file { IfOk result (λ front. IfSome front (λ f. f.gated.file ≡ file)) }
-        ensures whole { IsNeverBroken result }
-        ensures files { H.tells → IsHonest (H.standing host.old) → H.files host.new ≡ H.files host.old }
-        ensures moments { H.tells → IsHonest (H.standing host.old) → Since (IsStill (H.history host.old).now) (H.history host.old) (H.history host.new) }
-        ensures cause { HasGateCause (H.disk_faults host.old) (H.disk_faults host.new) result }
-        ensures standing { H.standing host.new ≡ H.standing host.old }
-        ensures input { H.unread host.new ≡ H.unread host.old }
-        ensures input_faults { H.input_faults host.new ≡ H.input_faults host.old }
-        ensures output { H.written host.new ≡ H.written host.old }
-        ensures output_faults { H.output_faults host.new ≡ H.output_faults host.old }
+        ensures reads { ReadsFiles H.Source H.Host.own host.old host.new }
+        ensures fails { FailsWith (H.disk_faults host.old) (H.disk_faults host.new) result }
     {
-        let total = host.len(file)?;
+        let total = len(host, file)?;
         if total <= FIRST_PLACE {
             return Ok(None);
         }

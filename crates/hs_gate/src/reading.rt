@@ -1,13 +1,26 @@
 // Reads of a file into memory.
-ghost use Rattle.std.specs.Prelude.{◌≡◌, ◌+◌, ◌^◌, ◌<◌, ◌≤◌, length, take, IfOk, OnOk};
-ghost use Rattle.hs_host.specs.Files.{of, piece, IsOpen, IsHonest};
-ghost use Rattle.hs_host.specs.Moments.{Since, IsStill};
-ghost use Rattle.hs_gate.specs.Faults.{HasGateCause, IsNeverBroken};
+ghost use Rattle.std.specs.Prelude.{◌≡◌, ◌+◌, ◌^◌, ◌<◌, ◌≤◌, length, take, slice_index, IfOk, OnOk};
+ghost use Rattle.hs_host.specs.Files.{of, piece, IsOpen};
+ghost use Rattle.hs_host.specs.Used.{Told, ReadsFiles};
+ghost use Rattle.hs_gate.specs.Faults.{FailsWith};
 
 use crate::gate_fault::GateFault;
-use hs_host::{FileKind, Host};
+use hs_host::{FileKind, Host, read};
 use hs_values::Bytes;
 use std::alloc::Global;
+
+/// One byte of a file.
+pub fn byte_at<H: Host>(host: &mut H, file: FileKind, at: u64) -> Result<u8, GateFault>
+    requires opened { IsOpen (H.standing host.old) }
+    requires within { Told H.Source H.Host.own host.old → at < length (of (H.files host.old) file) }
+    ensures reads { ReadsFiles H.Source H.Host.own host.old host.new }
+    ensures fails { FailsWith (H.disk_faults host.old) (H.disk_faults host.new) result }
+    ensures byte { Told H.Source H.Host.own host.old → IfOk result (λ byte. byte ≡ slice_index (of (H.files host.old) file) at) }
+{
+    let mut byte = [0; 1];
+    read(host, file, at, &mut byte)?;
+    Ok(byte[0])
+}
 
 /// Reads so many bytes of a file to the front of a buffer.
 pub fn read_front<H: Host>(
@@ -19,19 +32,12 @@ pub fn read_front<H: Host>(
 ) -> Result<(), GateFault>
     requires opened { IsOpen (H.standing host.old) }
     requires fits { count ≤ length buffer.old }
-    requires within { H.tells → IsHonest (H.standing host.old) → at + count ≤ length (of (H.files host.old) file) }
+    requires within { Told H.Source H.Host.own host.old → at + count ≤ length (of (H.files host.old) file) }
     ensures bytes { H.tells → OnOk result (take count buffer.new ≡ piece at count (of (H.files host.new) file)) }
-    ensures files { H.tells → IsHonest (H.standing host.old) → H.files host.new ≡ H.files host.old }
-    ensures moments { H.tells → IsHonest (H.standing host.old) → Since (IsStill (H.history host.old).now) (H.history host.old) (H.history host.new) }
-    ensures cause { HasGateCause (H.disk_faults host.old) (H.disk_faults host.new) result }
-    ensures whole { IsNeverBroken result }
-    ensures standing { H.standing host.new ≡ H.standing host.old }
-    ensures input { H.unread host.new ≡ H.unread host.old }
-    ensures input_faults { H.input_faults host.new ≡ H.input_faults host.old }
-    ensures output { H.written host.new ≡ H.written host.old }
-    ensures output_faults { H.output_faults host.new ≡ H.output_faults host.old }
+    ensures reads { ReadsFiles H.Source H.Host.own host.old host.new }
+    ensures fails { FailsWith (H.disk_faults host.old) (H.disk_faults host.new) result }
 {
-    host.read(file, at, &mut buffer[..count])?;
+    read(host, file, at, &mut buffer[..count])?;
     Ok(())
 }
 
@@ -46,19 +52,12 @@ pub fn read_payload<H: Host>(
 ) -> Result<Bytes, GateFault>
     requires opened { IsOpen (H.standing host.old) }
     requires room { at + size < 2 ^ 64 }
-    requires within { H.tells → IsHonest (H.standing host.old) → at + size ≤ length (of (H.files host.old) file) }
-    requires first { H.tells → IsHonest (H.standing host.old) → first.now ≡ piece at (length first.now) (of (H.files host.old) file) }
-    ensures payload { H.tells → IsHonest (H.standing host.old) → IfOk result (λ payload. payload ≡ piece at size (of (H.files host.old) file)) }
+    requires within { Told H.Source H.Host.own host.old → at + size ≤ length (of (H.files host.old) file) }
+    requires first { Told H.Source H.Host.own host.old → first.now ≡ piece at (length first.now) (of (H.files host.old) file) }
+    ensures payload { Told H.Source H.Host.own host.old → IfOk result (λ payload. payload ≡ piece at size (of (H.files host.old) file)) }
     ensures size { IfOk result (λ payload. length payload ≡ size) }
-    ensures files { H.tells → IsHonest (H.standing host.old) → H.files host.new ≡ H.files host.old }
-    ensures moments { H.tells → IsHonest (H.standing host.old) → Since (IsStill (H.history host.old).now) (H.history host.old) (H.history host.new) }
-    ensures cause { HasGateCause (H.disk_faults host.old) (H.disk_faults host.new) result }
-    ensures whole { IsNeverBroken result }
-    ensures standing { H.standing host.new ≡ H.standing host.old }
-    ensures input { H.unread host.new ≡ H.unread host.old }
-    ensures input_faults { H.input_faults host.new ≡ H.input_faults host.old }
-    ensures output { H.written host.new ≡ H.written host.old }
-    ensures output_faults { H.output_faults host.new ≡ H.output_faults host.old }
+    ensures reads { ReadsFiles H.Source H.Host.own host.old host.new }
+    ensures fails { FailsWith (H.disk_faults host.old) (H.disk_faults host.new) result }
 {
     let size = size as usize;
     if size <= first.len() {
@@ -80,21 +79,14 @@ fn read_behind<H: Host>(
     requires opened { IsOpen (H.standing host.old) }
     requires longer { length first.now ≤ length buffer.old }
     requires room { at + length buffer.old < 2 ^ 64 }
-    requires within { H.tells → IsHonest (H.standing host.old) → at + length buffer.old ≤ length (of (H.files host.old) file) }
-    requires first { H.tells → IsHonest (H.standing host.old) → first.now ≡ piece at (length first.now) (of (H.files host.old) file) }
-    ensures bytes { H.tells → IsHonest (H.standing host.old) → OnOk result (buffer.new ≡ piece at (length buffer.new) (of (H.files host.old) file)) }
-    ensures files { H.tells → IsHonest (H.standing host.old) → H.files host.new ≡ H.files host.old }
-    ensures moments { H.tells → IsHonest (H.standing host.old) → Since (IsStill (H.history host.old).now) (H.history host.old) (H.history host.new) }
-    ensures cause { HasGateCause (H.disk_faults host.old) (H.disk_faults host.new) result }
-    ensures whole { IsNeverBroken result }
-    ensures standing { H.standing host.new ≡ H.standing host.old }
-    ensures input { H.unread host.new ≡ H.unread host.old }
-    ensures input_faults { H.input_faults host.new ≡ H.input_faults host.old }
-    ensures output { H.written host.new ≡ H.written host.old }
-    ensures output_faults { H.output_faults host.new ≡ H.output_faults host.old }
+    requires within { Told H.Source H.Host.own host.old → at + length buffer.old ≤ length (of (H.files host.old) file) }
+    requires first { Told H.Source H.Host.own host.old → first.now ≡ piece at (length first.now) (of (H.files host.old) file) }
+    ensures bytes { Told H.Source H.Host.own host.old → OnOk result (buffer.new ≡ piece at (length buffer.new) (of (H.files host.old) file)) }
+    ensures reads { ReadsFiles H.Source H.Host.own host.old host.new }
+    ensures fails { FailsWith (H.disk_faults host.old) (H.disk_faults host.new) result }
 {
     let known = first.len();
     buffer[..known].copy_from_slice(first);
-    host.read(file, at + known as u64, &mut buffer[known..])?;
+    read(host, file, at + known as u64, &mut buffer[known..])?;
     Ok(())
 }

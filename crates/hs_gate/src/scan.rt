@@ -1,8 +1,8 @@
 // Finds the groups of a file.
 ghost use Rattle.std.specs.Prelude.{◌≡◌, ◌+◌, ◌*◌, ◌<◌, ◌≤◌, length, IfOk};
-ghost use Rattle.hs_host.specs.Files.{of, IsOpen, IsHonest};
-ghost use Rattle.hs_host.specs.Moments.{Since, IsStill};
-ghost use Rattle.hs_gate.specs.Faults.{HasGateCause, IsNeverBroken};
+ghost use Rattle.hs_host.specs.Files.{of, IsOpen};
+ghost use Rattle.hs_host.specs.Used.{Told, ReadsFiles};
+ghost use Rattle.hs_gate.specs.Faults.{FailsWith};
 ghost use Rattle.hs_gate.specs.Groups.{groups_of};
 
 use crate::found::{Found, look};
@@ -37,20 +37,13 @@ impl Ending {
     ) -> Result<Ending, GateFault>
         requires opened { IsOpen (H.standing host.old) }
         requires long { FIRST_PLACE < total }
-        requires all { H.tells → IsHonest (H.standing host.old) → total ≡ length (of (H.files host.old) file) }
+        requires all { Told H.Source H.Host.own host.old → total ≡ length (of (H.files host.old) file) }
         requires sound { IsSound window }
-        requires shows { H.tells → IsHonest (H.standing host.old) → Shows window (of (H.files host.old) file) }
-        ensures found { H.tells → IsHonest (H.standing host.old) → IfOk result (λ found. found ≡ ending 0 FIRST_PLACE (groups_of (of (H.files host.old) file))) }
+        requires shows { Told H.Source H.Host.own host.old → Shows window (of (H.files host.old) file) }
+        ensures found { Told H.Source H.Host.own host.old → IfOk result (λ found. found ≡ ending 0 FIRST_PLACE (groups_of (of (H.files host.old) file))) }
         ensures room { IfOk result (λ found. found.groups * 9 + FIRST_PLACE ≤ found.end) }
-        ensures whole { IsNeverBroken result }
-        ensures files { H.tells → IsHonest (H.standing host.old) → H.files host.new ≡ H.files host.old }
-        ensures moments { H.tells → IsHonest (H.standing host.old) → Since (IsStill (H.history host.old).now) (H.history host.old) (H.history host.new) }
-        ensures cause { HasGateCause (H.disk_faults host.old) (H.disk_faults host.new) result }
-        ensures standing { H.standing host.new ≡ H.standing host.old }
-        ensures input { H.unread host.new ≡ H.unread host.old }
-        ensures input_faults { H.input_faults host.new ≡ H.input_faults host.old }
-        ensures output { H.written host.new ≡ H.written host.old }
-        ensures output_faults { H.output_faults host.new ≡ H.output_faults host.old }
+        ensures reads { ReadsFiles H.Source H.Host.own host.old host.new }
+        ensures fails { FailsWith (H.disk_faults host.old) (H.disk_faults host.new) result }
     {
         let mut end = FIRST_PLACE;
         let mut groups = 0;

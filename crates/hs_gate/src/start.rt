@@ -1,39 +1,34 @@
 // How a gated file begins.
-ghost use Rattle.std.specs.Prelude.{◌≡◌, ◌≢◌, ◌<◌, ◌≤◌, [], ◌∷◌, ◌++◌, length, take, slice_index, false, IfOk, OnOk, OnErr};
-ghost use Rattle.hs_host.specs.Files.{of, with_, IsOpen, IsHonest};
-ghost use Rattle.hs_host.specs.Moments.{Since, IsStill, OneFile};
-ghost use Rattle.hs_gate.specs.Crash.{IsCalm, IsAny};
-ghost use Rattle.hs_gate.specs.Faults.{HasGateCause, IsNeverBroken};
-ghost use Rattle.hs_gate.specs.Changes.{IsOnly, IsWrittenOrNot};
+ghost use Rattle.std.specs.Prelude.{◌≡◌, ◌≢◌, ◌+◌, ◌^◌, ◌<◌, [], ◌∷◌, ◌++◌, length, take, slice_index, false, IfOk, OnOk, OnErr};
+ghost use Rattle.hs_host.specs.Disk.{settled};
+ghost use Rattle.hs_host.specs.Files.{of, IsOpen};
+ghost use Rattle.hs_host.specs.Moments.{disk_of};
+ghost use Rattle.hs_host.specs.Used.{Told, ReadsFiles, ChangesFile};
+ghost use Rattle.hs_gate.specs.Crash.{StandsOnDisk, HasSameHeader, IsAny};
+ghost use Rattle.hs_gate.specs.Faults.{FailsWith};
 ghost use Rattle.hs_gate.specs.Groups.{is_born, eight_bytes};
+ghost use Rattle.hs_gate.specs.Rewriting.{IsKept, IsReady, IsClosing, IsRewriting, body_of};
 
 use crate::gate_fault::GateFault;
 use crate::gated::Gated;
+use crate::reading::byte_at;
 use crate::scan::FIRST_PLACE;
 use crate::writing::{replace_from, write_synced};
-use hs_host::{FileKind, Host};
+use hs_host::{FileKind, Host, cut, len, sync, write};
 
 impl Gated {
-    ghost use Rattle.hs_gate.specs.Gated.{IsAtRest, IsUnbornOrCreated, IsSameOrClosedOrStarted, empty, started, created};
+    ghost use Rattle.hs_gate.specs.Gated.{IsAtRest, IsUnbornOrCreated, empty, started, created};
 
     /// Whether a file is born: it isn't empty, and its first byte is 1.
     ///
     /// `Disk` comes only where a call of the host failed, and `NoMemory` is handed on from the host.
-    #[tactic(auto, using(crate::proofs::Moments::still_on))]
     pub fn is_born<H: Host>(host: &mut H, file: FileKind) -> Result<bool, GateFault>
         requires { IsOpen (H.standing host.old) }
-        ensures born { H.tells → IsHonest (H.standing host.old) → IfOk result (λ born. born ≡ is_born (of (H.files host.old) file)) }
-        ensures files { H.tells → IsHonest (H.standing host.old) → H.files host.new ≡ H.files host.old }
-        ensures moments { H.tells → IsHonest (H.standing host.old) → Since (IsStill (H.history host.old).now) (H.history host.old) (H.history host.new) }
-        ensures cause { HasGateCause (H.disk_faults host.old) (H.disk_faults host.new) result }
-        ensures whole { IsNeverBroken result }
-        ensures standing { H.standing host.new ≡ H.standing host.old }
-        ensures input { H.unread host.new ≡ H.unread host.old }
-        ensures input_faults { H.input_faults host.new ≡ H.input_faults host.old }
-        ensures output { H.written host.new ≡ H.written host.old }
-        ensures output_faults { H.output_faults host.new ≡ H.output_faults host.old }
+        ensures reads { ReadsFiles H.Source H.Host.own host.old host.new }
+        ensures fails { FailsWith (H.disk_faults host.old) (H.disk_faults host.new) result }
+        ensures born { Told H.Source H.Host.own host.old → IfOk result (λ born. born ≡ is_born (of (H.files host.old) file)) }
     {
-        if host.len(file)? == 0 {
+        if len(host, file)? == 0 {
             return Ok(false);
         }
         Ok(byte_at(host, file, 0)? == 1)
@@ -46,59 +41,43 @@ impl Gated {
     /// stands on the disk. After an `Err` a file that wasn't born still isn't, or it is whole.
     ///
     /// `Disk` comes only where a call of the host failed, and `NoMemory` is handed on from the host.
-    #[tactic(auto, using(crate::proofs::Moments::any_on, crate::proofs::Moments::any_writing))]
     pub fn create<H: Host>(host: &mut H, file: FileKind) -> Result<Gated, GateFault>
         requires { IsOpen (H.standing host.old) }
-        ensures ok { H.tells → IsHonest (H.standing host.old) → OnOk result (H.files host.new ≡ with_ (H.files host.old) file created) }
-        ensures err { H.tells → IsHonest (H.standing host.old) → is_born (of (H.files host.old) file) ≡ false → OnErr result (IsUnbornOrCreated (of (H.files host.new) file)) }
-        ensures others { H.tells → IsHonest (H.standing host.old) → IsOnly (H.files host.old) file (H.files host.new) }
+        ensures changes { ChangesFile H.Source H.Host.own file IsAny host.old host.new }
+        ensures fails { FailsWith (H.disk_faults host.old) (H.disk_faults host.new) result }
         ensures empty { IfOk result (λ gated. gated ≡ empty file 1) }
-        ensures at_rest { H.tells → IsHonest (H.standing host.old) → IfOk result (IsAtRest (H.files host.new)) }
-        ensures moments { H.tells → IsHonest (H.standing host.old) → Since (OneFile (H.history host.old).now file IsAny) (H.history host.old) (H.history host.new) }
-        ensures calm { H.tells → IsHonest (H.standing host.old) → IfOk result (IsCalm (H.history host.new) (H.files host.new)) }
-        ensures cause { HasGateCause (H.disk_faults host.old) (H.disk_faults host.new) result }
-        ensures whole { IsNeverBroken result }
-        ensures standing { H.standing host.new ≡ H.standing host.old }
-        ensures input { H.unread host.new ≡ H.unread host.old }
-        ensures input_faults { H.input_faults host.new ≡ H.input_faults host.old }
-        ensures output { H.written host.new ≡ H.written host.old }
-        ensures output_faults { H.output_faults host.new ≡ H.output_faults host.old }
+        ensures ok { Told H.Source H.Host.own host.old → OnOk result (of (H.files host.new) file ≡ created) }
+        ensures err { Told H.Source H.Host.own host.old → is_born (of (H.files host.old) file) ≡ false → OnErr result (IsUnbornOrCreated (of (H.files host.new) file)) }
+        ensures at_rest { Told H.Source H.Host.own host.old → IfOk result (IsAtRest (H.files host.new)) }
+        ensures stands { Told H.Source H.Host.own host.old → IfOk result (StandsOnDisk (H.history host.new) (H.files host.new)) }
     {
-        replace_from(host, file, 0, &[0, 1, 0, 0, 0, 0, 0, 0, 0, 1, 0])?;
-        write_synced(host, file, 0, &[1])?;
+        let unborn = [0, 1, 0, 0, 0, 0, 0, 0, 0, 1, 0];
+        write(host, file, 0, &unborn)?;
+        cut(host, file, unborn.len() as u64)?;
+        sync(host, file)?;
+        write(host, file, 0, &[1])?;
+        sync(host, file)?;
         Ok(Gated::empty(file, 1))
     }
 
-    /// Starts a file of at least 2 bytes anew with an epoch and no groups. Its header is closed, or its epoch
-    /// counts for nothing. An open header gate is closed and synced first, then the epoch and a closed gate are
-    /// written in place of all groups and synced, and then the header gate is opened and synced.
+    /// Starts a file anew with an epoch and no groups (`rewrite`). Its header is closed, or its epoch counts for
+    /// nothing. It keeps its birth byte.
     ///
-    /// Nothing is promised of what a crash leaves of the file while it is started anew. After an `Ok` all of it
-    /// stands on the disk. After an `Err` the file is as it was, or isn't open, or is started as a whole.
+    /// At each moment on the way a crash leaves a file that isn't open, or was and still has its epoch, or is started
+    /// as a whole. After an `Ok` it is, and stands on the disk.
     ///
     /// `Disk` comes only where a call of the host failed, and `NoMemory` is handed on from the host.
-    #[tactic(auto, using(crate::proofs::Moments::any_on))]
     pub fn start<H: Host>(host: &mut H, file: FileKind, epoch: u64) -> Result<Gated, GateFault>
         requires opened { IsOpen (H.standing host.old) }
-        requires long { H.tells → IsHonest (H.standing host.old) → 2 ≤ length (of (H.files host.old) file) }
-        ensures ok { H.tells → IsHonest (H.standing host.old) → OnOk result (H.files host.new ≡ with_ (H.files host.old) file (started (of (H.files host.old) file) epoch)) }
-        ensures err { H.tells → IsHonest (H.standing host.old) → OnErr result (IsSameOrClosedOrStarted (of (H.files host.old) file) epoch (of (H.files host.new) file)) }
-        ensures others { H.tells → IsHonest (H.standing host.old) → IsOnly (H.files host.old) file (H.files host.new) }
+        requires ready { Told H.Source H.Host.own host.old → IsReady (disk_of (H.history host.old).now file) (of (H.files host.old) file) }
+        ensures changes { ChangesFile H.Source H.Host.own file (IsRewriting (of (H.files host.old) file) (body_of epoch [])) host.old host.new }
+        ensures fails { FailsWith (H.disk_faults host.old) (H.disk_faults host.new) result }
         ensures empty { IfOk result (λ gated. gated ≡ empty file epoch) }
-        ensures at_rest { H.tells → IsHonest (H.standing host.old) → IfOk result (IsAtRest (H.files host.new)) }
-        ensures moments { H.tells → IsHonest (H.standing host.old) → Since (OneFile (H.history host.old).now file IsAny) (H.history host.old) (H.history host.new) }
-        ensures calm { H.tells → IsHonest (H.standing host.old) → IfOk result (IsCalm (H.history host.new) (H.files host.new)) }
-        ensures cause { HasGateCause (H.disk_faults host.old) (H.disk_faults host.new) result }
-        ensures whole { IsNeverBroken result }
-        ensures standing { H.standing host.new ≡ H.standing host.old }
-        ensures input { H.unread host.new ≡ H.unread host.old }
-        ensures input_faults { H.input_faults host.new ≡ H.input_faults host.old }
-        ensures output { H.written host.new ≡ H.written host.old }
-        ensures output_faults { H.output_faults host.new ≡ H.output_faults host.old }
+        ensures ok { Told H.Source H.Host.own host.old → OnOk result (of (H.files host.new) file ≡ started (of (H.files host.old) file) epoch) }
+        ensures at_rest { Told H.Source H.Host.own host.old → IfOk result (IsAtRest (H.files host.new)) }
+        ensures stands { Told H.Source H.Host.own host.old → IfOk result (StandsOnDisk (H.history host.new) (H.files host.new)) }
     {
-        close_header(host, file)?;
-        replace_from(host, file, 2, &header_of(epoch))?;
-        write_synced(host, file, 1, &[1])?;
+        rewrite(host, file, &header_of(epoch))?;
         Ok(Gated::empty(file, epoch))
     }
 
@@ -124,47 +103,41 @@ fn header_of(epoch: u64) -> [u8; 9]
     header
 }
 
-// One byte of a file.
-fn byte_at<H: Host>(host: &mut H, file: FileKind, at: u64) -> Result<u8, GateFault>
+// Closes a header gate that is open, and syncs it. One that isn't open is left alone.
+fn close_gate<H: Host>(host: &mut H, file: FileKind) -> Result<(), GateFault>
     requires opened { IsOpen (H.standing host.old) }
-    requires within { H.tells → IsHonest (H.standing host.old) → at < length (of (H.files host.old) file) }
-    ensures byte { H.tells → IsHonest (H.standing host.old) → IfOk result (λ byte. byte ≡ slice_index (of (H.files host.old) file) at) }
-    ensures files { H.tells → IsHonest (H.standing host.old) → H.files host.new ≡ H.files host.old }
-    ensures moments { H.tells → IsHonest (H.standing host.old) → Since (IsStill (H.history host.old).now) (H.history host.old) (H.history host.new) }
-    ensures cause { HasGateCause (H.disk_faults host.old) (H.disk_faults host.new) result }
-    ensures whole { IsNeverBroken result }
-    ensures standing { H.standing host.new ≡ H.standing host.old }
-    ensures input { H.unread host.new ≡ H.unread host.old }
-    ensures input_faults { H.input_faults host.new ≡ H.input_faults host.old }
-    ensures output { H.written host.new ≡ H.written host.old }
-    ensures output_faults { H.output_faults host.new ≡ H.output_faults host.old }
-{
-    let mut byte = [0; 1];
-    host.read(file, at, &mut byte)?;
-    Ok(byte[0])
-}
-
-// Closes a header gate that is open, and syncs it.
-#[tactic(auto, using(crate::proofs::Moments::any_still))]
-fn close_header<H: Host>(host: &mut H, file: FileKind) -> Result<(), GateFault>
-    requires opened { IsOpen (H.standing host.old) }
-    requires long { H.tells → IsHonest (H.standing host.old) → 2 ≤ length (of (H.files host.old) file) }
-    ensures long { H.tells → IsHonest (H.standing host.old) → OnOk result (2 ≤ length (of (H.files host.new) file)) }
-    ensures first { H.tells → IsHonest (H.standing host.old) → OnOk result (take 1 (of (H.files host.new) file) ≡ take 1 (of (H.files host.old) file)) }
-    ensures closed { H.tells → IsHonest (H.standing host.old) → OnOk result (slice_index (of (H.files host.new) file) 1 ≢ 1) }
-    ensures err { H.tells → IsHonest (H.standing host.old) → OnErr result (IsWrittenOrNot (of (H.files host.old) file) 1 (0 ∷ []) (of (H.files host.new) file)) }
-    ensures others { H.tells → IsHonest (H.standing host.old) → IsOnly (H.files host.old) file (H.files host.new) }
-    ensures moments { H.tells → IsHonest (H.standing host.old) → Since (OneFile (H.history host.old).now file IsAny) (H.history host.old) (H.history host.new) }
-    ensures cause { HasGateCause (H.disk_faults host.old) (H.disk_faults host.new) result }
-    ensures whole { IsNeverBroken result }
-    ensures standing { H.standing host.new ≡ H.standing host.old }
-    ensures input { H.unread host.new ≡ H.unread host.old }
-    ensures input_faults { H.input_faults host.new ≡ H.input_faults host.old }
-    ensures output { H.written host.new ≡ H.written host.old }
-    ensures output_faults { H.output_faults host.new ≡ H.output_faults host.old }
+    requires ready { Told H.Source H.Host.own host.old → IsReady (disk_of (H.history host.old).now file) (of (H.files host.old) file) }
+    ensures changes { ChangesFile H.Source H.Host.own file (IsClosing (of (H.files host.old) file)) host.old host.new }
+    ensures fails { FailsWith (H.disk_faults host.old) (H.disk_faults host.new) result }
+    ensures closed { Told H.Source H.Host.own host.old → OnOk result (slice_index (of (H.files host.new) file) 1 ≢ 1) }
+    ensures birth { Told H.Source H.Host.own host.old → OnOk result (take 1 (of (H.files host.new) file) ≡ take 1 (of (H.files host.old) file)) }
+    ensures kept { Told H.Source H.Host.own host.old → OnOk result (IsKept (disk_of (H.history host.new).now file) 2 (of (H.files host.new) file)) }
 {
     if byte_at(host, file, 1)? == 1 {
         write_synced(host, file, 1, &[0])?;
     }
     Ok(())
+}
+
+/// Writes a file anew behind its birth byte and its header gate. `body` is its epoch in 8 bytes, its groups and a
+/// closed gate. An open header gate is closed and synced first; then the body is written, the file is cut behind it
+/// and synced; then the header gate is opened and synced. A gate that isn't open is never written closed.
+///
+/// At each moment on the way a crash leaves a file that isn't open, or was and still has its epoch, or has the whole
+/// body behind its header gate; and it is born where the file was. After an `Ok` it is open with this body, and stands
+/// on the disk.
+///
+/// `Disk` comes only where a call of the host failed, and `NoMemory` is handed on from the host.
+pub fn rewrite<H: Host>(host: &mut H, file: FileKind, body: &[u8]) -> Result<(), GateFault>
+    requires opened { IsOpen (H.standing host.old) }
+    requires room { 2 + length body.now < 2 ^ 64 }
+    requires ready { Told H.Source H.Host.own host.old → IsReady (disk_of (H.history host.old).now file) (of (H.files host.old) file) }
+    ensures changes { ChangesFile H.Source H.Host.own file (IsRewriting (of (H.files host.old) file) body.now) host.old host.new }
+    ensures fails { FailsWith (H.disk_faults host.old) (H.disk_faults host.new) result }
+    ensures ok { Told H.Source H.Host.own host.old → OnOk result (of (H.files host.new) file ≡ take 1 (of (H.files host.old) file) ++ 1 ∷ body.now) }
+    ensures settled { Told H.Source H.Host.own host.old → OnOk result (disk_of (H.history host.new).now file ≡ settled (of (H.files host.new) file)) }
+{
+    close_gate(host, file)?;
+    replace_from(host, file, 2, body)?;
+    write_synced(host, file, 1, &[1])
 }

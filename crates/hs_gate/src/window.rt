@@ -1,8 +1,8 @@
 // Bytes of a file at hand.
 ghost use Rattle.std.specs.Prelude.{◌≡◌, ◌+◌, ◌-◌, ◌^◌, ◌<◌, ◌≤◌, min, length, take, drop, IfOk, OnOk, IsTrue};
-ghost use Rattle.hs_host.specs.Files.{of, IsOpen, IsHonest};
-ghost use Rattle.hs_host.specs.Moments.{Since, IsStill};
-ghost use Rattle.hs_gate.specs.Faults.{HasGateCause, IsNeverBroken};
+ghost use Rattle.hs_host.specs.Files.{of, IsOpen};
+ghost use Rattle.hs_host.specs.Used.{Told, ReadsFiles};
+ghost use Rattle.hs_gate.specs.Faults.{FailsWith};
 
 use crate::gate_fault::GateFault;
 use crate::reading::read_front;
@@ -71,20 +71,13 @@ impl Window {
         requires room { at + left < 2 ^ 64 }
         requires needed { need ≤ left }
         requires small { need ≤ WINDOW_BYTES }
-        requires within { H.tells → IsHonest (H.standing host.old) → at + left ≤ length (of (H.files host.old) file) }
-        requires shows { H.tells → IsHonest (H.standing host.old) → Shows self.old (of (H.files host.old) file) }
+        requires within { Told H.Source H.Host.own host.old → at + left ≤ length (of (H.files host.old) file) }
+        requires shows { Told H.Source H.Host.own host.old → Shows self.old (of (H.files host.old) file) }
         ensures sound { IsSound self.new }
         ensures has { OnOk result (Has self.new at need) }
-        ensures shows { H.tells → IsHonest (H.standing host.old) → OnOk result (Shows self.new (of (H.files host.new) file)) }
-        ensures files { H.tells → IsHonest (H.standing host.old) → H.files host.new ≡ H.files host.old }
-        ensures moments { H.tells → IsHonest (H.standing host.old) → Since (IsStill (H.history host.old).now) (H.history host.old) (H.history host.new) }
-        ensures cause { HasGateCause (H.disk_faults host.old) (H.disk_faults host.new) result }
-        ensures whole { IsNeverBroken result }
-        ensures standing { H.standing host.new ≡ H.standing host.old }
-        ensures input { H.unread host.new ≡ H.unread host.old }
-        ensures input_faults { H.input_faults host.new ≡ H.input_faults host.old }
-        ensures output { H.written host.new ≡ H.written host.old }
-        ensures output_faults { H.output_faults host.new ≡ H.output_faults host.old }
+        ensures shows { Told H.Source H.Host.own host.old → OnOk result (Shows self.new (of (H.files host.new) file)) }
+        ensures reads { ReadsFiles H.Source H.Host.own host.old host.new }
+        ensures fails { FailsWith (H.disk_faults host.old) (H.disk_faults host.new) result }
     {
         if self.has(at, need) {
             return Ok(());
@@ -103,20 +96,13 @@ impl Window {
     ) -> Result<(), GateFault>
         requires sound { IsSound self.old }
         requires opened { IsOpen (H.standing host.old) }
-        requires within { H.tells → IsHonest (H.standing host.old) → at + left ≤ length (of (H.files host.old) file) }
+        requires within { Told H.Source H.Host.own host.old → at + left ≤ length (of (H.files host.old) file) }
         ensures sound { IsSound self.new }
         ensures base { OnOk result (self.new.base ≡ at) }
         ensures count { OnOk result (self.new.count ≡ min left WINDOW_BYTES) }
-        ensures shows { H.tells → IsHonest (H.standing host.old) → OnOk result (Shows self.new (of (H.files host.new) file)) }
-        ensures files { H.tells → IsHonest (H.standing host.old) → H.files host.new ≡ H.files host.old }
-        ensures moments { H.tells → IsHonest (H.standing host.old) → Since (IsStill (H.history host.old).now) (H.history host.old) (H.history host.new) }
-        ensures cause { HasGateCause (H.disk_faults host.old) (H.disk_faults host.new) result }
-        ensures whole { IsNeverBroken result }
-        ensures standing { H.standing host.new ≡ H.standing host.old }
-        ensures input { H.unread host.new ≡ H.unread host.old }
-        ensures input_faults { H.input_faults host.new ≡ H.input_faults host.old }
-        ensures output { H.written host.new ≡ H.written host.old }
-        ensures output_faults { H.output_faults host.new ≡ H.output_faults host.old }
+        ensures shows { Told H.Source H.Host.own host.old → OnOk result (Shows self.new (of (H.files host.new) file)) }
+        ensures reads { ReadsFiles H.Source H.Host.own host.old host.new }
+        ensures fails { FailsWith (H.disk_faults host.old) (H.disk_faults host.new) result }
     {
         let count = left.min(WINDOW_BYTES as u64) as usize;
         read_front(host, file, at, &mut self.buffer, count)?;

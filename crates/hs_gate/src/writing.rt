@@ -1,16 +1,16 @@
 // Writes that are brought to the disk.
-ghost use Rattle.std.specs.Prelude.{◌≡◌, ℕ, ◌+◌, ◌^◌, ◌<◌, ◌≤◌, List, [], ◌∷◌, ◌++◌, length, take, IfOk, OnOk, OnErr};
-ghost use Rattle.hs_host.specs.Files.{of, with_, overwrite, IsOpen, IsHonest};
-ghost use Rattle.hs_host.specs.Prefixes.{KeepsPrefix};
-ghost use Rattle.hs_host.specs.Moments.{Since, OneFile, IsSynced, disk_of};
-ghost use Rattle.hs_gate.specs.Crash.{IsAny, IsWriting, BeginsWith};
-ghost use Rattle.hs_gate.specs.Faults.{HasGateCause, IsNeverBroken};
-ghost use Rattle.hs_gate.specs.Changes.{IsOnly, IsWrittenOrNot, IsReplacedOrNot};
-ghost use Rattle.hs_gate.specs.Groups.{eight_bytes};
+ghost use Rattle.std.specs.Prelude.{◌≡◌, ◌+◌, ◌^◌, ◌<◌, ◌≤◌, [], ◌∷◌, ◌++◌, length, take, OnOk};
+ghost use Rattle.hs_host.specs.Disk.{settled};
+ghost use Rattle.hs_host.specs.Files.{of, overwrite, IsOpen};
+ghost use Rattle.hs_host.specs.Moments.{disk_of};
+ghost use Rattle.hs_host.specs.Used.{Told, Moves, ChangesFile};
+ghost use Rattle.hs_gate.specs.Crash.{IsWriting, IsPut, BeginsWith};
+ghost use Rattle.hs_gate.specs.Faults.{FailsWith};
+ghost use Rattle.hs_gate.specs.Rewriting.{IsKept};
 
 use crate::gate_fault::GateFault;
 use arrayvec::{ArrayVec, CapacityError};
-use hs_host::{FileKind, Host};
+use hs_host::{FileKind, Host, cut, sync, write};
 
 /// As many bytes as are put together and written at once.
 const SMALL_BYTES: usize = 256;
@@ -23,22 +23,14 @@ pub fn write_synced<H: Host>(
     bytes: &[u8],
 ) -> Result<(), GateFault>
     requires opened { IsOpen (H.standing host.old) }
-    requires within { H.tells → IsHonest (H.standing host.old) → at ≤ length (of (H.files host.old) file) }
-    ensures ok { H.tells → IsHonest (H.standing host.old) → OnOk result (H.files host.new ≡ with_ (H.files host.old) file (overwrite (of (H.files host.old) file) at bytes.now)) }
-    ensures err { H.tells → IsHonest (H.standing host.old) → OnErr result (IsWrittenOrNot (of (H.files host.old) file) at bytes.now (of (H.files host.new) file)) }
-    ensures others { H.tells → IsHonest (H.standing host.old) → IsOnly (H.files host.old) file (H.files host.new) }
-    ensures moments { H.tells → IsHonest (H.standing host.old) → Since (IsWriting (H.history host.old).now file at bytes.now (of (H.files host.old) file)) (H.history host.old) (H.history host.new) }
-    ensures settled { H.tells → IsHonest (H.standing host.old) → OnOk result (IsSynced (H.history host.old).now file (of (H.files host.new) file) (H.history host.new).now) }
-    ensures cause { HasGateCause (H.disk_faults host.old) (H.disk_faults host.new) result }
-    ensures whole { IsNeverBroken result }
-    ensures standing { H.standing host.new ≡ H.standing host.old }
-    ensures input { H.unread host.new ≡ H.unread host.old }
-    ensures input_faults { H.input_faults host.new ≡ H.input_faults host.old }
-    ensures output { H.written host.new ≡ H.written host.old }
-    ensures output_faults { H.output_faults host.new ≡ H.output_faults host.old }
+    requires within { Told H.Source H.Host.own host.old → at ≤ length (of (H.files host.old) file) }
+    ensures moves { Moves H.Source H.Host.own file (IsWriting (H.history host.old).now file at bytes.now (of (H.files host.old) file)) host.old host.new }
+    ensures fails { FailsWith (H.disk_faults host.old) (H.disk_faults host.new) result }
+    ensures ok { Told H.Source H.Host.own host.old → OnOk result (of (H.files host.new) file ≡ overwrite (of (H.files host.old) file) at bytes.now) }
+    ensures settled { Told H.Source H.Host.own host.old → OnOk result (disk_of (H.history host.new).now file ≡ settled (of (H.files host.new) file)) }
 {
-    host.write(file, at, bytes)?;
-    host.sync(file)?;
+    write(host, file, at, bytes)?;
+    sync(host, file)?;
     Ok(())
 }
 
@@ -52,66 +44,77 @@ pub fn replace_from<H: Host>(
 ) -> Result<(), GateFault>
     requires opened { IsOpen (H.standing host.old) }
     requires room { at + length bytes.now < 2 ^ 64 }
-    requires within { H.tells → IsHonest (H.standing host.old) → at ≤ length (of (H.files host.old) file) }
-    ensures ok { H.tells → IsHonest (H.standing host.old) → OnOk result (H.files host.new ≡ with_ (H.files host.old) file (take at (of (H.files host.old) file) ++ bytes.now)) }
-    ensures err { H.tells → IsHonest (H.standing host.old) → OnErr result (IsReplacedOrNot (of (H.files host.old) file) at bytes.now (of (H.files host.new) file)) }
-    ensures others { H.tells → IsHonest (H.standing host.old) → IsOnly (H.files host.old) file (H.files host.new) }
-    ensures moments { H.tells → IsHonest (H.standing host.old) → Since (OneFile (H.history host.old).now file IsAny) (H.history host.old) (H.history host.new) }
-    ensures settled { H.tells → IsHonest (H.standing host.old) → OnOk result (IsSynced (H.history host.old).now file (of (H.files host.new) file) (H.history host.new).now) }
-    ensures cause { HasGateCause (H.disk_faults host.old) (H.disk_faults host.new) result }
-    ensures whole { IsNeverBroken result }
-    ensures standing { H.standing host.new ≡ H.standing host.old }
-    ensures input { H.unread host.new ≡ H.unread host.old }
-    ensures input_faults { H.input_faults host.new ≡ H.input_faults host.old }
-    ensures output { H.written host.new ≡ H.written host.old }
-    ensures output_faults { H.output_faults host.new ≡ H.output_faults host.old }
+    requires kept { Told H.Source H.Host.own host.old → IsKept (disk_of (H.history host.old).now file) at (of (H.files host.old) file) }
+    ensures changes { ChangesFile H.Source H.Host.own file (BeginsWith at (of (H.files host.old) file)) host.old host.new }
+    ensures fails { FailsWith (H.disk_faults host.old) (H.disk_faults host.new) result }
+    ensures ok { Told H.Source H.Host.own host.old → OnOk result (of (H.files host.new) file ≡ take at (of (H.files host.old) file) ++ bytes.now) }
+    ensures settled { Told H.Source H.Host.own host.old → OnOk result (disk_of (H.history host.new).now file ≡ settled (of (H.files host.new) file)) }
 {
-    host.write(file, at, bytes)?;
-    host.cut(file, at + bytes.len() as u64)?;
-    host.sync(file)?;
+    write(host, file, at, bytes)?;
+    cut(host, file, at + bytes.len() as u64)?;
+    sync(host, file)?;
     Ok(())
 }
 
-/// Puts a payload behind its length and in front of a closed gate, where these are at most 256 bytes.
+/// Puts two pieces and a closed gate one behind the other, where these are at most 256 bytes.
 #[inline]
-fn put_group(bytes: &mut ArrayVec<u8, SMALL_BYTES>, payload: &[u8]) -> Result<(), CapacityError>
+fn put_together(
+    bytes: &mut ArrayVec<u8, SMALL_BYTES>,
+    first: &[u8],
+    second: &[u8],
+) -> Result<(), CapacityError>
     requires { bytes.old.items ≡ [] }
-    ensures { OnOk result (bytes.new.items ≡ eight_bytes (length payload.now) ++ payload.now ++ 0 ∷ []) }
+    ensures { OnOk result (bytes.new.items ≡ first.now ++ second.now ++ 0 ∷ []) }
 {
-    bytes.try_extend_from_slice(&(payload.len() as u64).to_be_bytes())?;
-    bytes.try_extend_from_slice(payload)?;
+    bytes.try_extend_from_slice(first)?;
+    bytes.try_extend_from_slice(second)?;
     bytes.try_extend_from_slice(&[0])?;
     Ok(())
 }
 
-/// Writes the length of a payload, the payload and a closed gate, at once where they are few bytes, and syncs them.
-pub fn write_payload<H: Host>(
+/// Writes two pieces and a closed gate one behind the other, at once where they are few bytes, and syncs them.
+fn write_pieces<H: Host>(
     host: &mut H,
     file: FileKind,
     at: u64,
-    payload: &[u8],
+    first: &[u8],
+    second: &[u8],
 ) -> Result<(), GateFault>
     requires opened { IsOpen (H.standing host.old) }
-    requires room { at + 8 + length payload.now < 2 ^ 64 }
-    requires within { H.tells → IsHonest (H.standing host.old) → at ≤ length (of (H.files host.old) file) }
-    ensures ok { H.tells → IsHonest (H.standing host.old) → OnOk result (H.files host.new ≡ with_ (H.files host.old) file (overwrite (of (H.files host.old) file) at (eight_bytes (length payload.now) ++ payload.now ++ 0 ∷ []))) }
-    ensures others { H.tells → IsHonest (H.standing host.old) → IsOnly (H.files host.old) file (H.files host.new) }
-    ensures moments { H.tells → IsHonest (H.standing host.old) → KeepsPrefix (disk_of (H.history host.old).now file) at (of (H.files host.old) file) → Since (OneFile (H.history host.old).now file (BeginsWith at (of (H.files host.old) file))) (H.history host.old) (H.history host.new) }
-    ensures settled { H.tells → IsHonest (H.standing host.old) → OnOk result (IsSynced (H.history host.old).now file (of (H.files host.new) file) (H.history host.new).now) }
-    ensures cause { HasGateCause (H.disk_faults host.old) (H.disk_faults host.new) result }
-    ensures whole { IsNeverBroken result }
-    ensures standing { H.standing host.new ≡ H.standing host.old }
-    ensures input { H.unread host.new ≡ H.unread host.old }
-    ensures input_faults { H.input_faults host.new ≡ H.input_faults host.old }
-    ensures output { H.written host.new ≡ H.written host.old }
-    ensures output_faults { H.output_faults host.new ≡ H.output_faults host.old }
+    requires room { at + length first.now + length second.now < 2 ^ 64 }
+    requires kept { Told H.Source H.Host.own host.old → IsKept (disk_of (H.history host.old).now file) at (of (H.files host.old) file) }
+    ensures changes { ChangesFile H.Source H.Host.own file (BeginsWith at (of (H.files host.old) file)) host.old host.new }
+    ensures fails { FailsWith (H.disk_faults host.old) (H.disk_faults host.new) result }
+    ensures ok { Told H.Source H.Host.own host.old → OnOk result (of (H.files host.new) file ≡ overwrite (of (H.files host.old) file) at (first.now ++ second.now ++ 0 ∷ [])) }
+    ensures settled { Told H.Source H.Host.own host.old → OnOk result (disk_of (H.history host.new).now file ≡ settled (of (H.files host.new) file)) }
 {
     let mut bytes = ArrayVec::new();
-    if put_group(&mut bytes, payload).is_ok() {
+    if put_together(&mut bytes, first, second).is_ok() {
         return write_synced(host, file, at, bytes.as_slice());
     }
-    let size = payload.len() as u64;
-    host.write(file, at, &size.to_be_bytes())?;
-    host.write(file, at + 8, payload)?;
-    write_synced(host, file, at + 8 + size, &[0])
+    let middle = at + first.len() as u64;
+    write(host, file, at, first)?;
+    write(host, file, middle, second)?;
+    write_synced(host, file, middle + second.len() as u64, &[0])
+}
+
+/// Opens the gate at a place, once two pieces and a closed gate stand behind it on the disk. What a crash leaves on the
+/// way is the file up to that gate as it was, or has all of these bytes behind it.
+pub fn write_behind_gate<H: Host>(
+    host: &mut H,
+    file: FileKind,
+    gate: u64,
+    first: &[u8],
+    second: &[u8],
+) -> Result<(), GateFault>
+    requires opened { IsOpen (H.standing host.old) }
+    requires room { gate + 1 + length first.now + length second.now < 2 ^ 64 }
+    requires kept { Told H.Source H.Host.own host.old → IsKept (disk_of (H.history host.old).now file) (gate + 1) (of (H.files host.old) file) }
+    ensures changes { ChangesFile H.Source H.Host.own file (IsPut (of (H.files host.old) file) gate (first.now ++ second.now ++ 0 ∷ [])) host.old host.new }
+    ensures fails { FailsWith (H.disk_faults host.old) (H.disk_faults host.new) result }
+    ensures ok { Told H.Source H.Host.own host.old → OnOk result (of (H.files host.new) file ≡ overwrite (of (H.files host.old) file) gate (1 ∷ (first.now ++ second.now ++ 0 ∷ []))) }
+    ensures settled { Told H.Source H.Host.own host.old → OnOk result (disk_of (H.history host.new).now file ≡ settled (of (H.files host.new) file)) }
+{
+    write_pieces(host, file, gate + 1, first, second)?;
+    write_synced(host, file, gate, &[1])
 }

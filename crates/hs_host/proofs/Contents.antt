@@ -67,3 +67,16 @@ has_written p bytes at over has = record {
   };
   whole = λ untouched. absurd (cc);
 }
+
+-- a cut or a write that failed changes nothing that a read gives
+pub has_failed_cut : (p : Pending) (bytes : List ℕ) (len : ℕ) → Has p bytes → Has (cut_to len p) bytes
+has_failed_cut p bytes len has = record {
+  may = record { long = omega (arith, has.may.long); same = λ i below none. has.may.same i (omega (arith, below)) none };
+  whole = λ untouched. absurd (cc);
+}
+
+pub has_failed_write : (p : Pending) (bytes : List ℕ) (at count : ℕ) → Has p bytes → Has (written_at at count p) bytes
+has_failed_write p bytes at count has = record {
+  may = record { long = has.may.long; same = λ i below none. has.may.same i below (λ covered. none (inr covered)) };
+  whole = λ untouched. absurd (cc);
+}

@@ -4,7 +4,7 @@ use Rattle.std.proofs.lemmas.Grind.{same_number_lists}
 use Rattle.hs_host.specs.Disk.{Pending, IsCovered, Leaves, MayLeave}
 use Rattle.hs_host.specs.Prefixes.{KeepsPrefix, AreBehind}
 
-uncovered : (ranges : List (ℕ × ℕ)) (n i : ℕ) → AreBehind n ranges → i < n → IsCovered ranges i → ⊥
+pub uncovered : (ranges : List (ℕ × ℕ)) (n i : ℕ) → AreBehind n ranges → i < n → IsCovered ranges i → ⊥
 uncovered [] n i behind below c = c
 uncovered (r ∷ rs) n i behind below (inl here) = omega (arith, here.0, behind.0, below)
 uncovered (r ∷ rs) n i behind below (inr there) = uncovered rs n i behind.1 below there

@@ -33,13 +33,18 @@ with_ five Backup x = record five { backup = x }
 abbrev pub overwrite : List ℕ → ℕ → List ℕ → List ℕ
 overwrite old at bytes = take at old ++ bytes ++ drop (at + length bytes) old
 
+-- Of five files only this one may have changed.
+abbrev pub IsOnly : Five (List ℕ) → FileKind → Five (List ℕ) → Type 0
+IsOnly old file new = new ≡ with_ old file (of new file)
+
 -- So many bytes from a place on.
 abbrev pub piece : ℕ → ℕ → List ℕ → List ℕ
 piece at count bytes = take count (drop at bytes)
 
 -- How a host stands to the files: under which name it was mounted, none at first, and whether that answered
--- `Ok`; whether the files are those of another program; and whether a read gives the bytes of the calls that
--- answered `Ok`, applied in order.
+-- `Ok`; whether the files are those of another program; and whether it is honest. A host is honest where both hold: a
+-- read gives the bytes of the calls that answered `Ok`, applied in order; and a crash leaves of each file only what
+-- `Leaves` of `Disk.antt` allows, calls that failed being among those that may have left part of their work.
 pub record Standing : Type 0 where
   pub name : Option (List ℕ)
   pub is_open : Bool

@@ -1,5 +1,5 @@
 -- What the calls of a host do.
-use Rattle.std.specs.Prelude.{◌≡◌, ℕ, ◌+◌, ◌-◌, ◌^◌, ◌<◌, ◌≤◌, min, List, [], ◌++◌, length, take, Result, MatchResult, IsErrOf}
+use Rattle.std.specs.Prelude.{◌≡◌, ℕ, ◌+◌, ◌-◌, ◌^◌, ◌<◌, ◌≤◌, min, List, [], ◌++◌, length, take, Result, MatchResult, IfOk, OnOk, IsErrOf}
 use Rattle.hs_host.specs.declared.host_fault.HostFault.{HostFault}
 use Rattle.hs_host.specs.declared.host_fault.HostFault.TheVariants.{Fault, NoMemory}
 use Rattle.hs_host.specs.declared.mount_fault.MountFault.{MountFault}
@@ -9,15 +9,25 @@ use Rattle.hs_host.specs.declared.mount_fault.MountFault.TheVariants as mount
 abbrev pub Rose : ℕ → ℕ → Type 0
 Rose before now = min (before + 1) (2 ^ 64 - 1) ≤ now
 
--- A count of faults never falls, a call answers `Fault` only where it rose, and want of memory raises none.
+-- A count of faults never falls, a call answers `Fault` only where it rose, and no other answer raises it.
 pub record HasCause {T : Type 0} (before now : ℕ) (result : Result T HostFault) : Type 0 where
   pub kept : before ≤ now
+  pub ok : OnOk result (now ≡ before)
+  pub fault : IsErrOf result Fault → Rose before now
+  pub memory : IsErrOf result NoMemory → now ≡ before
+
+-- The same of handing over a piece of output, but that taking nothing of a piece that isn't empty raises the count too.
+pub record HasOutputCause (before now : ℕ) (piece : List ℕ) (result : Result ℕ HostFault) : Type 0 where
+  pub kept : before ≤ now
+  pub some : IfOk result (λ n. (n ≡ 0 → piece ≡ []) → now ≡ before)
+  pub none : IfOk result (λ n. n ≡ 0 → 0 < length piece → Rose before now)
   pub fault : IsErrOf result Fault → Rose before now
   pub memory : IsErrOf result NoMemory → now ≡ before
 
 -- The same of mounting. That the files are those of another program raises no count either.
 pub record HasMountCause {T : Type 0} (before now : ℕ) (result : Result T MountFault) : Type 0 where
   pub kept : before ≤ now
+  pub ok : OnOk result (now ≡ before)
   pub fault : IsErrOf result mount.Fault → Rose before now
   pub foreign : IsErrOf result mount.Foreign → now ≡ before
   pub memory : IsErrOf result mount.NoMemory → now ≡ before

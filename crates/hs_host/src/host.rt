@@ -1,11 +1,11 @@
 // The whole outside.
-ghost use Rattle.std.specs.Prelude.{◌≡◌, ℕ, ◌+◌, ◌^◌, ◌<◌, ◌≤◌, List, [], ◌++◌, length, take, IfOk, OnOk, OnErr, IsErrOf, MatchResult};
+ghost use Rattle.std.specs.Prelude.{◌≡◌, ◌⊎◌, ℕ, ◌+◌, ◌^◌, ◌≤◌, List, [], ◌++◌, length, take, IfOk, OnOk, OnErr, IsErrOf};
 ghost use Rattle.std.specs.Io.{WritesAtMost};
 ghost use Rattle.hs_host.specs.Files.{Five, of, with_, overwrite, piece, Standing, IsUnnamed, IsOpen, IsForeign, IsHonest, mounted};
 ghost use Rattle.hs_host.specs.declared.file_kind.FileKind.{FileKind};
 ghost use Rattle.hs_host.specs.Disk.{Leaves, written_at, cut_to, settled};
-ghost use Rattle.hs_host.specs.Host.{HasCause, HasMountCause, Rose, AddsOutput};
-ghost use Rattle.hs_host.specs.Moments.{History, Moment, Since, IsStill, IsWritten, IsCut, IsSynced, IsPrinted, disk_of, with_disk};
+ghost use Rattle.hs_host.specs.Host.{HasCause, HasMountCause, HasOutputCause, AddsOutput};
+ghost use Rattle.hs_host.specs.Moments.{History, Since, Next, Passes, IsStill, IsWritten, IsCut, IsSyncing, IsPrinted, IsAsked, IsReading, disk_of};
 
 use crate::file_kind::FileKind;
 use crate::host_fault::HostFault;
@@ -32,8 +32,9 @@ pub trait Host: Source {
     /// How often a call on the files has failed.
     ghost disk_faults: { Self → ℕ };
 
-    /// The moments so far: at each, the output by then and what the disk has of each file, from which follows what a crash
-    /// at that moment may leave.
+    /// The moments so far: at each, the output and the input taken by then, and what the disk has of each file, from which
+    /// follows what a crash at that moment may leave. Every call but `mount` makes one, but for one that wants memory, which
+    /// may make none.
     ghost history: { Self → History };
 
     /// Takes bytes from the front of `bytes` as the next output, and answers how many. Taking none of a
@@ -44,9 +45,8 @@ pub trait Host: Source {
     fn write_output(&mut self, bytes: &[u8]) -> Result<usize, HostFault>
         ensures bound { WritesAtMost result bytes.now }
         ensures output { Self.tells → AddsOutput (written self.old) (written self.new) bytes.now result }
-        ensures moments { Self.tells → Since (IsPrinted (history self.old).now bytes.now) (history self.old) (history self.new) }
-        ensures none { IfOk result (λ n. n ≡ 0 → 0 < length bytes.now → Rose (output_faults self.old) (output_faults self.new)) }
-        ensures cause { HasCause (output_faults self.old) (output_faults self.new) result }
+        ensures moments { Self.tells → Passes (IsPrinted (history self.old).now bytes.now) result (history self.old) (history self.new) }
+        ensures cause { HasOutputCause (output_faults self.old) (output_faults self.new) bytes.now result }
         ensures input { Self.unread self.new ≡ Self.unread self.old }
         ensures input_faults { Self.input_faults self.new ≡ Self.input_faults self.old }
         ensures files { files self.new ≡ files self.old }
@@ -80,7 +80,7 @@ pub trait Host: Source {
         requires { IsOpen (standing self.old) }
         ensures length { Self.tells → IfOk result (λ n. n ≡ length (of (files self.new) file)) }
         ensures files { Self.tells → IsHonest (standing self.old) → files self.new ≡ files self.old }
-        ensures moments { Self.tells → IsHonest (standing self.old) → Since (IsStill (history self.old).now) (history self.old) (history self.new) }
+        ensures moments { Self.tells → IsHonest (standing self.old) → Passes (IsStill (history self.old).now) result (history self.old) (history self.new) }
         ensures cause { HasCause (disk_faults self.old) (disk_faults self.new) result }
         ensures standing { standing self.new ≡ standing self.old }
         ensures input { Self.unread self.new ≡ Self.unread self.old }
@@ -97,7 +97,7 @@ pub trait Host: Source {
         requires within { Self.tells → IsHonest (standing self.old) → at + length buf.old ≤ length (of (files self.old) file) }
         ensures bytes { Self.tells → OnOk result (buf.new ≡ piece at (length buf.new) (of (files self.new) file)) }
         ensures files { Self.tells → IsHonest (standing self.old) → files self.new ≡ files self.old }
-        ensures moments { Self.tells → IsHonest (standing self.old) → Since (IsStill (history self.old).now) (history self.old) (history self.new) }
+        ensures moments { Self.tells → IsHonest (standing self.old) → Passes (IsStill (history self.old).now) result (history self.old) (history self.new) }
         ensures cause { HasCause (disk_faults self.old) (disk_faults self.new) result }
         ensures standing { standing self.new ≡ standing self.old }
         ensures input { Self.unread self.new ≡ Self.unread self.old }
@@ -117,8 +117,7 @@ pub trait Host: Source {
         ensures room { OnOk result (at + length bytes.now ≤ 2 ^ 62) }
         ensures ok { Self.tells → IsHonest (standing self.old) → OnOk result (files self.new ≡ with_ (files self.old) file (overwrite (of (files self.old) file) at bytes.now)) }
         ensures err { Self.tells → IsHonest (standing self.old) → OnErr result (files self.new ≡ files self.old) }
-        ensures moments { Self.tells → IsHonest (standing self.old) → Since (IsWritten (history self.old).now file at (length bytes.now)) (history self.old) (history self.new) }
-        ensures pending { Self.tells → IsHonest (standing self.old) → OnOk result (IsWritten (history self.old).now file at (length bytes.now) (history self.new).now) }
+        ensures moments { Self.tells → IsHonest (standing self.old) → Passes (IsWritten (history self.old).now file at (length bytes.now)) result (history self.old) (history self.new) }
         ensures cause { HasCause (disk_faults self.old) (disk_faults self.new) result }
         ensures standing { standing self.new ≡ standing self.old }
         ensures input { Self.unread self.new ≡ Self.unread self.old }
@@ -135,8 +134,7 @@ pub trait Host: Source {
         requires within { Self.tells → IsHonest (standing self.old) → len ≤ length (of (files self.old) file) }
         ensures ok { Self.tells → IsHonest (standing self.old) → OnOk result (files self.new ≡ with_ (files self.old) file (take len (of (files self.old) file))) }
         ensures err { Self.tells → IsHonest (standing self.old) → OnErr result (files self.new ≡ files self.old) }
-        ensures moments { Self.tells → IsHonest (standing self.old) → Since (IsCut (history self.old).now file len) (history self.old) (history self.new) }
-        ensures pending { Self.tells → IsHonest (standing self.old) → OnOk result (IsCut (history self.old).now file len (history self.new).now) }
+        ensures moments { Self.tells → IsHonest (standing self.old) → Passes (IsCut (history self.old).now file len) result (history self.old) (history self.new) }
         ensures cause { HasCause (disk_faults self.old) (disk_faults self.new) result }
         ensures standing { standing self.new ≡ standing self.old }
         ensures input { Self.unread self.new ≡ Self.unread self.old }
@@ -151,8 +149,7 @@ pub trait Host: Source {
     fn sync(&mut self, file: FileKind) -> Result<(), HostFault>
         requires { IsOpen (standing self.old) }
         ensures files { Self.tells → IsHonest (standing self.old) → files self.new ≡ files self.old }
-        ensures moments { Self.tells → IsHonest (standing self.old) → MatchResult result (λ _. Since (IsSynced (history self.old).now file (of (files self.old) file)) (history self.old) (history self.new)) (λ _. Since (IsStill (history self.old).now) (history self.old) (history self.new)) }
-        ensures settled { Self.tells → IsHonest (standing self.old) → OnOk result (IsSynced (history self.old).now file (of (files self.old) file) (history self.new).now) }
+        ensures moments { Self.tells → IsHonest (standing self.old) → Passes (IsSyncing (history self.old).now file (of (files self.old) file) result) result (history self.old) (history self.new) }
         ensures cause { HasCause (disk_faults self.old) (disk_faults self.new) result }
         ensures standing { standing self.new ≡ standing self.old }
         ensures input { Self.unread self.new ≡ Self.unread self.old }
@@ -168,5 +165,11 @@ pub trait Host: Source {
 
     ghost read_may_be_left: { (h : Self) → Self.tells → IsHonest (standing h) → (file : FileKind) → Leaves (disk_of (history h).now file) (of (files h) file) };
 
-    ghost reading_passes: { (a b : Self) → Self.only_input a b → Self.tells → Since (IsStill (history a).now) (history a) (history b) };
+    ghost reading_passes: { (a b : Self) → Self.only_input a b → Self.tells → Since (IsReading (history a).now) (history a) (history b) };
+
+    ghost reading_takes: { (a b : Self) → Self.only_input a b → Self.tells → (history b).now.taken ++ Self.unread b ≡ (history a).now.taken ++ Self.unread a };
+
+    ghost reads_moment: { (a b : Self) (bytes : List ℕ) → Self.tells → Self.reads a b bytes → Self.makes_moment a b → Next (IsAsked (history a).now bytes) (history a) (history b) };
+
+    ghost reads_asked: { (a b : Self) (bytes : List ℕ) → Self.tells → Self.reads a b bytes → ((bytes ≡ []) × (history b ≡ history a)) ⊎ Next (IsAsked (history a).now bytes) (history a) (history b) };
 }

@@ -2,7 +2,5 @@
 #![tactic(auto)]
 
 mod commit;
-#[cfg(test)]
-mod tests;
 
-pub use commit::log_commit;
+pub use commit::{log_commit, log_commits};

@@ -6,9 +6,9 @@ use Rattle.hs_host.specs.Disk.{Pending, Leaves, settled, written_at, cut_to}
 use Rattle.hs_host.specs.Files.{Five, of, with_, overwrite}
 use Rattle.hs_host.specs.Moments.{disk_of, settled_files}
 use Rattle.hs_host.proofs.Files.{with_of, each_with}
-use Rattle.hs_host.proofs.Contents.{Has, has_leaves, has_settled, has_cut, has_written}
+use Rattle.hs_host.proofs.Contents.{Has, has_leaves, has_settled, has_cut, has_written, has_failed_cut, has_failed_write}
 use Rattle.hs_memhost.specs.declared.call.Call.{Call}
-use Rattle.hs_memhost.specs.declared.call.Call.TheVariants.{Write, Cut, Sync, Output}
+use Rattle.hs_memhost.specs.declared.call.Call.TheVariants.{Write, FailedWrite, Cut, FailedCut, Sync, Look, Output, Input}
 use Rattle.hs_memhost.specs.Replay.{State, first_state, after_call, after_calls, history_of, files_after}
 
 -- what the disk has of each file goes with its bytes
@@ -32,7 +32,15 @@ after_has s (Cut file len) has =
 after_has s (Sync file) has =
     subst (λ (f : Five (List ℕ)). (k : FileKind) → Has (of (with_ s.moment.disks file (settled (of s.files file))) k) (of f k)) (with_of s.files file)
     (each_with Has s.moment.disks s.files file (settled (of s.files file)) (of s.files file) has (has_settled (of s.files file)))
+after_has s (FailedWrite file at count) has =
+    subst (λ (f : Five (List ℕ)). (k : FileKind) → Has (of (with_ s.moment.disks file (written_at at count (disk_of s.moment file))) k) (of f k)) (with_of s.files file)
+    (each_with Has s.moment.disks s.files file (written_at at count (disk_of s.moment file)) (of s.files file) has (has_failed_write (disk_of s.moment file) (of s.files file) at count (has file)))
+after_has s (FailedCut file len) has =
+    subst (λ (f : Five (List ℕ)). (k : FileKind) → Has (of (with_ s.moment.disks file (cut_to len (disk_of s.moment file))) k) (of f k)) (with_of s.files file)
+    (each_with Has s.moment.disks s.files file (cut_to len (disk_of s.moment file)) (of s.files file) has (has_failed_cut (disk_of s.moment file) (of s.files file) len (has file)))
+after_has s Look has = has
 after_has s (Output bytes) has = has
+after_has s (Input bytes) has = has
 
 all_has : (s : State) (calls : List Call) → HasAll s → HasAll (after_calls s calls)
 all_has s [] has = has

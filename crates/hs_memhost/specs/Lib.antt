@@ -6,4 +6,5 @@ pub mod Left
 pub mod Memory
 pub mod Mounting
 pub mod Never
+pub mod Reading
 pub mod Replay

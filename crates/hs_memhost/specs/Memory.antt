@@ -4,6 +4,7 @@ use Rattle.hs_host.specs.Files.{Five, Standing}
 use Rattle.hs_host.specs.Moments.{History}
 use Rattle.hs_memhost.specs.Devices.{files_on, history_on}
 use Rattle.hs_memhost.specs.Input.{left_of}
+use Rattle.hs_memhost.specs.Reading.{Reads, TakesAtOnce}
 use Rattle.hs_memhost.specs.Mounting.{standing_of}
 use Rattle.hs_memhost.specs.declared.memory.MemHost.{MemHost}
 
@@ -31,9 +32,9 @@ output_in h = (history_in h).now.out
 abbrev pub standing_in : MemHost → Standing
 standing_in h = standing_of h.mounting h.is_foreign
 
--- all but the input, its faults and the number of calls
+-- all but the input, its faults, the moments and the number of calls
 pub record Kept : Type 0 where
-  pub history : History
+  pub out : List ℕ
   pub output_faults : ℕ
   pub files : Five (List ℕ)
   pub standing : Standing
@@ -41,9 +42,15 @@ pub record Kept : Type 0 where
   pub failing : List ℕ
 
 abbrev pub kept_of : MemHost → Kept
-kept_of h = record { history = history_in h; output_faults = h.output_faults; files = files_in h; standing = standing_in h; disk_faults = h.disk_faults; failing = h.failing }
+kept_of h = record { out = output_in h; output_faults = h.output_faults; files = files_in h; standing = standing_in h; disk_faults = h.disk_faults; failing = h.failing }
+
+-- only input was read
+pub record OnlyInput (a b : MemHost) : Type 0 where
+  pub kept : kept_of b ≡ kept_of a
+  pub read : Reads (history_in a) (left_of a.input) (history_in b) (left_of b.input)
 
 -- one call took these bytes from the input
 pub record IsOneRead (a b : MemHost) (bytes : List ℕ) : Type 0 where
   pub taken : left_of a.input ≡ bytes ++ left_of b.input
   pub counted : calls_of b ≡ min (calls_of a + 1) (2 ^ 64 - 1)
+  pub moment : TakesAtOnce bytes (history_in a) (history_in b)

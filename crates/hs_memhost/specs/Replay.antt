@@ -1,20 +1,19 @@
 -- The moments of a host in memory, from the calls that it has kept.
-use Rattle.std.specs.Prelude.{◌≡◌, ℕ, List, [], ◌∷◌, ◌++◌, length, take}
-use Rattle.std.proofs.Common.{ap}
+use Rattle.std.specs.Prelude.{ℕ, List, [], ◌∷◌, ◌++◌, length, take}
 use Rattle.hs_host.specs.Disk.{settled, written_at, cut_to}
 use Rattle.hs_host.specs.Files.{Five, of, with_, overwrite}
-use Rattle.hs_host.specs.Moments.{History, Moment, Since, IsStill, disk_of, with_disk, settled_files}
+use Rattle.hs_host.specs.Moments.{begun, on_file, told, asked, History, Moment, disk_of, with_disk, settled_files}
 use Rattle.hs_memhost.specs.declared.call.Call.{Call}
-use Rattle.hs_memhost.specs.declared.call.Call.TheVariants.{Write, Cut, Sync, Output}
+use Rattle.hs_memhost.specs.declared.call.Call.TheVariants.{Write, FailedWrite, Cut, FailedCut, Sync, Look, Output, Input}
 
 -- what a read of each file gives, and the moment
 pub record State : Type 0 where
   pub files : Five (List ℕ)
   pub moment : Moment
 
--- all files are on the disk, and nothing is told
+-- all files are on the disk, and nothing is told or taken
 abbrev pub first_state : Five (List ℕ) → State
-first_state files = record { files = files; moment = record { disks = settled_files files; out = [] } }
+first_state files = record { files = files; moment = record { disks = settled_files files; out = []; taken = []; call = begun } }
 
 -- one call more
 abbrev pub after_call : State → Call → State
@@ -26,8 +25,12 @@ after_call s (Cut file len) = record {
   files = with_ s.files file (take len (of s.files file));
   moment = with_disk s.moment file (cut_to len (disk_of s.moment file));
 }
+after_call s (FailedWrite file at count) = record { files = s.files; moment = with_disk s.moment file (written_at at count (disk_of s.moment file)) }
+after_call s (FailedCut file len) = record { files = s.files; moment = with_disk s.moment file (cut_to len (disk_of s.moment file)) }
+after_call s Look = record { files = s.files; moment = record (s.moment) { call = on_file } }
 after_call s (Sync file) = record { files = s.files; moment = with_disk s.moment file (settled (of s.files file)) }
-after_call s (Output bytes) = record { files = s.files; moment = record { disks = s.moment.disks; out = s.moment.out ++ bytes } }
+after_call s (Output bytes) = record { files = s.files; moment = record (s.moment) { out = s.moment.out ++ bytes; call = told } }
+after_call s (Input bytes) = record { files = s.files; moment = record (s.moment) { taken = s.moment.taken ++ bytes; call = asked s.moment.taken } }
 
 -- the state after these calls
 abbrev pub after_calls : State → List Call → State
@@ -45,7 +48,3 @@ history_of files calls = record { now = (after_calls (first_state files) calls).
 
 abbrev pub files_after : Five (List ℕ) → List Call → Five (List ℕ)
 files_after files calls = (after_calls (first_state files) calls).files
-
--- no moment has passed
-pub still_since : {a b : History} → b ≡ a → Since (IsStill a.now) a b
-still_since {a} {b} is = record { between = []; is = ap (λ (h : History). h.now ∷ h.past) is; each = tt }

@@ -1,8 +1,8 @@
-// The calls of a host that change its files or its output.
+// The calls of a host that make a moment.
 use hs_host::FileKind;
 use hs_values::Bytes;
 
-/// A call that changed a file, what the disk has of it, or the output.
+/// A call that made a moment.
 #[derive(Drop)]
 pub enum Call {
     /// These bytes were put into a file from a place on.
@@ -11,8 +11,19 @@ pub enum Call {
         at: u64,
         bytes: Bytes,
     },
+    /// So many bytes were to be put into a file from a place on, which failed.
+    FailedWrite {
+        file: FileKind,
+        at: u64,
+        count: usize,
+    },
     /// A file was cut to a length.
     Cut {
+        file: FileKind,
+        len: u64,
+    },
+    /// A file was to be cut to a length, which failed.
+    FailedCut {
         file: FileKind,
         len: u64,
     },
@@ -20,8 +31,14 @@ pub enum Call {
     Sync {
         file: FileKind,
     },
+    /// A file was looked at, or a sync of it failed.
+    Look,
     /// These bytes were taken as output.
     Output {
+        bytes: Bytes,
+    },
+    /// These bytes of the input were taken.
+    Input {
         bytes: Bytes,
     },
 }

@@ -4,7 +4,7 @@ ghost use Rattle.std.proofs.Props.{props};
 ghost use Rattle.hs_host.specs.Files.{Five, of, with_, overwrite, piece};
 ghost use Rattle.hs_memhost.specs.Files.{contents_of};
 ghost use Rattle.hs_memhost.specs.Images.{files_of};
-ghost use Rattle.hs_memhost.specs.Replay.{first_state, after_calls, files_after, history_of};
+ghost use Rattle.hs_memhost.specs.Replay.{files_after, history_of};
 
 use crate::call::Call;
 use crate::files::Files;
@@ -13,7 +13,7 @@ use hs_host::{FileKind, HostFault};
 use hs_values::Bytes;
 use std::alloc::Global;
 
-/// The files and the output of a host in memory, and each call that changed them, from the first on. The files are
+/// The files and the output of a host in memory, and each call that made a moment, from the first on. The files are
 /// kept as they were at first, and beside them as they are, once one is changed.
 #[derive(Drop)]
 pub struct Devices {
@@ -28,8 +28,9 @@ pub struct Devices {
 }
 
 impl Devices {
-    ghost use Rattle.hs_host.specs.Moments.{Since, IsWritten, IsCut, IsSynced, IsPrinted};
-    ghost use Rattle.hs_memhost.specs.Devices.{files_on, history_on};
+    ghost use Rattle.hs_host.specs.Moments.{IsStill, IsWritten, IsCut, IsSynced, IsPrinted, IsAsked};
+    ghost use Rattle.hs_memhost.specs.Devices.{files_on, history_on, state_on, Keeps};
+    ghost use Rattle.hs_memhost.specs.Replay.{State, after_call};
 
     /// These files, all on the disk, and no output.
     pub fn new(alloc: Global, images: Images) -> Devices
@@ -79,14 +80,55 @@ impl Devices {
     /// Takes bytes as the next output. After an `Err`, which is want of memory, nothing is changed.
     pub fn push_output(&mut self, bytes: &[u8]) -> Result<(), HostFault>
         ensures ok { OnOk result ((history_on self.new).now.out ≡ (history_on self.old).now.out ++ bytes.now) }
-        ensures err { OnErr result (history_on self.new ≡ history_on self.old) }
         ensures memory { IsErrOf result HostFault.Fault → ⊥ }
-        ensures moments { Since (IsPrinted (history_on self.old).now bytes.now) (history_on self.old) (history_on self.new) }
+        ensures moments { Keeps (IsPrinted (history_on self.old).now bytes.now) result (history_on self.old) (history_on self.new) }
         ensures files { files_on self.new ≡ files_on self.old }
     {
         let kept = copied(self.alloc, bytes)?;
         keep_output(&mut self.calls, &mut self.output, kept, bytes)?;
         Ok(())
+    }
+
+    /// Takes bytes of the input. After an `Err`, which is want of memory, nothing is changed.
+    pub fn take_input(&mut self, bytes: &[u8]) -> Result<(), HostFault>
+        ensures memory { IsErrOf result HostFault.Fault → ⊥ }
+        ensures moments { Keeps (IsAsked (history_on self.old).now bytes.now) result (history_on self.old) (history_on self.new) }
+        ensures files { files_on self.new ≡ files_on self.old }
+        ensures output { (history_on self.new).now.out ≡ (history_on self.old).now.out }
+    {
+        let bytes = copied(self.alloc, bytes)?;
+        self.note(Call::Input { bytes })
+    }
+
+    /// Looks at a file, or fails to sync it. After an `Err`, which is want of memory, nothing is changed.
+    pub fn look(&mut self) -> Result<(), HostFault>
+        ensures memory { IsErrOf result HostFault.Fault → ⊥ }
+        ensures moments { Keeps (IsStill (history_on self.old).now) result (history_on self.old) (history_on self.new) }
+        ensures files { files_on self.new ≡ files_on self.old }
+        ensures output { (history_on self.new).now.out ≡ (history_on self.old).now.out }
+    {
+        self.note(Call::Look)
+    }
+
+    /// Fails to put so many bytes into a file, though some may be left there. After an `Err`, which is want of memory,
+    /// nothing is changed.
+    pub fn fail_write(&mut self, file: FileKind, at: u64, count: usize) -> Result<(), HostFault>
+        ensures memory { IsErrOf result HostFault.Fault → ⊥ }
+        ensures moments { Keeps (IsWritten (history_on self.old).now file at count) result (history_on self.old) (history_on self.new) }
+        ensures files { files_on self.new ≡ files_on self.old }
+        ensures output { (history_on self.new).now.out ≡ (history_on self.old).now.out }
+    {
+        self.note(Call::FailedWrite { file, at, count })
+    }
+
+    /// Fails to cut a file, though it may be left shorter. After an `Err`, which is want of memory, nothing is changed.
+    pub fn fail_cut(&mut self, file: FileKind, len: u64) -> Result<(), HostFault>
+        ensures memory { IsErrOf result HostFault.Fault → ⊥ }
+        ensures moments { Keeps (IsCut (history_on self.old).now file len) result (history_on self.old) (history_on self.new) }
+        ensures files { files_on self.new ≡ files_on self.old }
+        ensures output { (history_on self.new).now.out ≡ (history_on self.old).now.out }
+    {
+        self.note(Call::FailedCut { file, len })
     }
 
     /// Puts bytes into a file from the place `at` on, which is at most its length. Its only `Err` is `NoMemory`, also
@@ -97,8 +139,7 @@ impl Devices {
         ensures ok { OnOk result (files_on self.new ≡ with_ (files_on self.old) file (overwrite (of (files_on self.old) file) at bytes.now)) }
         ensures err { OnErr result (files_on self.new ≡ files_on self.old) }
         ensures memory { IsErrOf result HostFault.Fault → ⊥ }
-        ensures pending { OnOk result (IsWritten (history_on self.old).now file at (length bytes.now) (history_on self.new).now) }
-        ensures moments { Since (IsWritten (history_on self.old).now file at (length bytes.now)) (history_on self.old) (history_on self.new) }
+        ensures moments { Keeps (IsWritten (history_on self.old).now file at (length bytes.now)) result (history_on self.old) (history_on self.new) }
         ensures output { (history_on self.new).now.out ≡ (history_on self.old).now.out }
     {
         self.copy_files()?;
@@ -112,8 +153,7 @@ impl Devices {
         ensures ok { OnOk result (files_on self.new ≡ with_ (files_on self.old) file (take len (of (files_on self.old) file))) }
         ensures err { OnErr result (files_on self.new ≡ files_on self.old) }
         ensures memory { IsErrOf result HostFault.Fault → ⊥ }
-        ensures pending { OnOk result (IsCut (history_on self.old).now file len (history_on self.new).now) }
-        ensures moments { Since (IsCut (history_on self.old).now file len) (history_on self.old) (history_on self.new) }
+        ensures moments { Keeps (IsCut (history_on self.old).now file len) result (history_on self.old) (history_on self.new) }
         ensures output { (history_on self.new).now.out ≡ (history_on self.old).now.out }
     {
         self.copy_files()?;
@@ -124,14 +164,24 @@ impl Devices {
     /// Brings a file to the disk. After an `Err`, which is want of memory, nothing is changed.
     pub fn sync(&mut self, file: FileKind) -> Result<(), HostFault>
         ensures files { files_on self.new ≡ files_on self.old }
-        ensures err { OnErr result (history_on self.new ≡ history_on self.old) }
         ensures memory { IsErrOf result HostFault.Fault → ⊥ }
-        ensures settled { OnOk result (IsSynced (history_on self.old).now file (of (files_on self.old) file) (history_on self.new).now) }
-        ensures moments { OnOk result (Since (IsSynced (history_on self.old).now file (of (files_on self.old) file)) (history_on self.old) (history_on self.new)) }
+        ensures moments { Keeps (IsSynced (history_on self.old).now file (of (files_on self.old) file)) result (history_on self.old) (history_on self.new) }
         ensures output { (history_on self.new).now.out ≡ (history_on self.old).now.out }
     {
-        keep_sync(&mut self.calls, file)?;
-        Ok(())
+        self.note(Call::Sync { file })
+    }
+
+    // Keeps a call that changes neither what a read gives nor the output. After an `Err`, which is `NoMemory`, nothing
+    // is changed.
+    fn note(&mut self, call: Call) -> Result<(), HostFault>
+        requires files { (s : State) → (after_call s call).files ≡ s.files }
+        requires told { (s : State) → (after_call s call).moment.out ≡ s.moment.out }
+        ensures memory { IsErrOf result HostFault.Fault → ⊥ }
+        ensures moments { Keeps (λ m. m ≡ (after_call (state_on self.old) call).moment) result (history_on self.old) (history_on self.new) }
+        ensures files { files_on self.new ≡ files_on self.old }
+        ensures output { (history_on self.new).now.out ≡ (history_on self.old).now.out }
+    {
+        keep(&mut self.calls, call)
     }
 
     // From the first change on the files are kept twice.
@@ -222,18 +272,6 @@ fn keep_cut(
 {
     keep(calls, Call::Cut { file, len })?;
     files.cut(file, len);
-    Ok(())
-}
-
-// Keeps a sync. The only `Err` is `NoMemory`, and then nothing is changed.
-fn keep_sync(calls: &mut Vec<Call>, file: FileKind) -> Result<(), HostFault>
-    ensures ok { OnOk result (calls.new.items ≡ calls.old.items ++ Call.Sync file ∷ []) }
-    ensures err { OnErr result (calls.new.items ≡ calls.old.items) }
-    ensures files { (first : Five (List ℕ)) → files_after first calls.new.items ≡ files_after first calls.old.items }
-    ensures told { (first : Five (List ℕ)) → (history_of first calls.new.items).now.out ≡ (history_of first calls.old.items).now.out }
-    ensures memory { IsErrOf result HostFault.Fault → ⊥ }
-{
-    keep(calls, Call::Sync { file })?;
     Ok(())
 }
 

@@ -1,5 +1,5 @@
 // Input in memory, given whole or in pieces.
-ghost use Rattle.std.specs.Prelude.{◌≡◌, ◌≤◌, ◌++◌, ◌<◌, [], take, drop, min, length};
+ghost use Rattle.std.specs.Prelude.{◌≡◌, ◌≤◌, ◌++◌, ◌<◌, [], take, drop, length};
 
 use hs_values::Bytes;
 use std::alloc::Global;
@@ -62,25 +62,43 @@ impl Input {
         self.pieces = Pieces { lengths, at: 0 };
     }
 
-    /// Puts the next bytes at the front of `buf` and answers how many.
-    pub fn read(&mut self, buf: &mut [u8]) -> usize
-        ensures bound { result ≤ length buf.new }
-        ensures bytes { left_of self.old ≡ take result buf.new ++ left_of self.new }
-        ensures end { result ≡ 0 → 0 < length buf.new → left_of self.new ≡ [] }
+    /// How many bytes the next read gives, where its buffer has so much room.
+    pub fn next_count(&mut self, room: usize) -> usize
+        ensures room { result ≤ room }
+        ensures left { result ≤ length (left_of self.new) }
+        ensures end { result ≡ 0 → 0 < room → left_of self.new ≡ [] }
+        ensures same { left_of self.new ≡ left_of self.old }
     {
         let most = self.pieces.next();
-        let count = fill(buf, &self.bytes.as_slice()[self.taken..], most);
+        room.min(self.bytes.len() - self.taken).min(most)
+    }
+
+    /// The next so many bytes.
+    pub fn front(&self, count: usize) -> &[u8]
+        requires { count ≤ length (left_of self.now) }
+        ensures { result.now ≡ take count (left_of self.now) }
+    {
+        &self.bytes.as_slice()[self.taken..self.taken + count]
+    }
+
+    /// Puts the next so many bytes at the front of `buf`.
+    pub fn take(&mut self, buf: &mut [u8], count: usize)
+        requires room { count ≤ length buf.old }
+        requires left { count ≤ length (left_of self.old) }
+        ensures taken { take count buf.new ≡ take count (left_of self.old) }
+        ensures rest { left_of self.old ≡ take count buf.new ++ left_of self.new }
+    {
+        fill(buf, &self.bytes.as_slice()[self.taken..], count);
         self.taken += count;
-        count
     }
 }
 
-// Copies as much of the bytes as there is room for, and at most so many.
-fn fill(buf: &mut [u8], bytes: &[u8], most: usize) -> usize
-    ensures count { result ≡ min (min (length buf.new) (length bytes.now)) most }
-    ensures copied { bytes.now ≡ take result buf.new ++ drop result bytes.now }
+// Copies so many of the bytes.
+fn fill(buf: &mut [u8], bytes: &[u8], count: usize)
+    requires room { count ≤ length buf.old }
+    requires there { count ≤ length bytes.now }
+    ensures taken { take count buf.new ≡ take count bytes.now }
+    ensures copied { bytes.now ≡ take count buf.new ++ drop count bytes.now }
 {
-    let count = buf.len().min(bytes.len()).min(most);
     buf[..count].copy_from_slice(&bytes[..count]);
-    count
 }

@@ -1,10 +1,10 @@
 // A host in memory whose calls fail where a list says so.
-ghost use Rattle.std.specs.Prelude.{◌≡◌, ◌↔◌, ◌⊎◌, ℕ, List, ◌<◌, ◌≤◌, ◌+◌, ◌-◌, ◌^◌, min, [], length, take, IsTrue, IfOk, OnOk, OnErr, IsErrOf, MatchResult, Contains, None, false, true, refl};
+ghost use Rattle.std.specs.Prelude.{◌≡◌, ◌↔◌, ◌⊎◌, ℕ, List, ◌≤◌, ◌+◌, ◌-◌, ◌^◌, min, [], ◌∷◌, length, take, IsTrue, IfOk, OnOk, OnErr, IsErrOf, MatchResult, Contains, None, false, true, refl};
 ghost use Rattle.std.proofs.Common.{◌∙◌, ap};
 ghost use Rattle.hs_memhost.specs.Input.{left_of};
 ghost use Rattle.std.specs.Io.{ReadsAtMost, WritesAtMost};
 ghost use Rattle.hs_host.specs.Files.{of, with_, overwrite, piece, IsForeign, mounted};
-ghost use Rattle.hs_host.specs.Host.{HasCause, HasMountCause, Rose, TakesInput, AddsOutput};
+ghost use Rattle.hs_host.specs.Host.{HasCause, HasMountCause, HasOutputCause, Rose, TakesInput, AddsOutput};
 
 use crate::call_list::CallList;
 use crate::devices::Devices;
@@ -36,8 +36,8 @@ impl MemHost {
 
     /// A host with this input, no output, no name and no call yet. Its files are these, all on the disk. They are
     /// those of another program exactly where `foreign` says so. Its calls are counted from 0, those on the input, the output and
-    /// the files together. The calls whose numbers are in `failing` do nothing but count, and answer `Fault`; no other call
-    /// answers `Fault`.
+    /// the files together. The calls whose numbers are in `failing` answer `Fault`, and no other call does. They change nothing that is
+    /// read, but a crash may leave part of a write or a cut that failed.
     pub fn new(
         alloc: Global,
         input: Bytes,
@@ -126,25 +126,11 @@ impl MemHost {
     {
         self.disk_faults = self.disk_faults.saturating_add(1);
     }
-
-    // Counts a call on the files, and answers `Fault` if it is to fail.
-    fn reach_disk(&mut self) -> Result<(), HostFault>
-        ensures listed { IsErrOf result HostFault.Fault ↔ Contains (failing_of self.old) (calls_of self.old) }
-        ensures memory { IsErrOf result HostFault.NoMemory → ⊥ }
-        ensures ok { OnOk result (self.new ≡ record self.old { calls = min (self.old.calls + 1) (2 ^ 64 - 1) }) }
-        ensures cause { HasCause self.old.disk_faults self.new.disk_faults result }
-        ensures err { OnErr result (self.new ≡ record self.old { calls = min (self.old.calls + 1) (2 ^ 64 - 1); disk_faults = min (self.old.disk_faults + 1) (2 ^ 64 - 1) }) }
-    {
-        if self.fails_now() {
-            self.count_disk_fault();
-            return Err(HostFault::Fault);
-        }
-        Ok(())
-    }
 }
 
 impl Source for MemHost {
-    ghost use Rattle.hs_memhost.specs.Memory.{calls_of, failing_of, kept_of, IsOneRead};
+    ghost use Rattle.hs_memhost.specs.Memory.{calls_of, failing_of, history_in, kept_of, OnlyInput, IsOneRead};
+    ghost use Rattle.hs_memhost.specs.Reading.{reads_none, reads_then};
 
     ghost tells = { Unit {0} };
 
@@ -152,29 +138,38 @@ impl Source for MemHost {
 
     ghost input_faults = { λ h. h.input_faults };
 
-    ghost only_input = { λ a b. kept_of b ≡ kept_of a };
+    ghost only_input = { OnlyInput };
 
-    ghost nothing_read = { λ h. refl };
+    ghost nothing_read = { λ h. record { kept = refl; read = reads_none (history_in h) (left_of h.input) } };
 
-    ghost read_on = { λ a b c ab bc. bc ∙ ab };
+    ghost read_on = { λ a b c ab bc. record { kept = bc.kept ∙ ab.kept; read = reads_then (history_in a) (history_in b) (history_in c) (left_of a.input) (left_of b.input) (left_of c.input) ab.read bc.read } };
 
     ghost reads = { IsOneRead };
+
+    ghost makes_moment = { λ a b. (history_in b).past ≡ (history_in a).now ∷ (history_in a).past };
+
+    ghost reads_unread = { λ a b bytes told one. one.taken };
 
     fn read_input(&mut self, buf: &mut [u8]) -> Result<usize, HostFault>
         ensures bound { ReadsAtMost result buf.new }
         ensures bytes { TakesInput (left_of self.old.input) (left_of self.new.input) result buf.new }
         ensures cause { HasCause self.old.input_faults self.new.input_faults result }
-        ensures no_fault { OnOk result (self.new.input_faults ≡ self.old.input_faults) }
-        ensures only { kept_of self.new ≡ kept_of self.old }
+        ensures only { OnlyInput self.old self.new }
         ensures one { MatchResult result (λ n. IsOneRead self.old self.new (take n buf.new)) (λ _. IsOneRead self.old self.new []) }
-        ensures listed { IsErrOf result HostFault.Fault ↔ Contains (failing_of self.old) (calls_of self.old) }
+        ensures moment { IsErrOf result HostFault.NoMemory ⊎ ((history_in self.new).past ≡ (history_in self.old).now ∷ (history_in self.old).past) }
+        ensures fault { IsErrOf result HostFault.Fault → Contains (failing_of self.old) (calls_of self.old) }
+        ensures listed { Contains (failing_of self.old) (calls_of self.old) → IsErrOf result HostFault.Fault ⊎ IsErrOf result HostFault.NoMemory }
         ensures calls { calls_of self.new ≡ min (calls_of self.old + 1) (2 ^ 64 - 1) }
     {
         if self.fails_now() {
+            self.devices.take_input(&[])?;
             self.input_faults = self.input_faults.saturating_add(1);
             return Err(HostFault::Fault);
         }
-        Ok(self.input.read(buf))
+        let count = self.input.next_count(buf.len());
+        self.devices.take_input(self.input.front(count))?;
+        self.input.take(buf, count);
+        Ok(count)
     }
 }
 
@@ -182,8 +177,8 @@ impl Host for MemHost {
     ghost use Rattle.hs_memhost.specs.Memory.{calls_of, failing_of, files_in, history_in, output_in, standing_in};
     ghost use Rattle.hs_memhost.specs.Files.{contents_of};
     ghost use Rattle.hs_memhost.specs.Left.{may_be_left};
-    ghost use Rattle.hs_host.specs.Moments.{Since, IsStill, IsWritten, IsCut, IsSynced, IsPrinted};
-    ghost use Rattle.hs_memhost.specs.Replay.{still_since};
+    ghost use Rattle.hs_host.specs.Moments.{Passes, IsStill, IsWritten, IsCut, IsSyncing, IsPrinted};
+    ghost use Rattle.hs_memhost.specs.Reading.{takes_next};
 
     ghost written = { output_in };
 
@@ -197,33 +192,39 @@ impl Host for MemHost {
 
     ghost disk_faults = { λ h. h.disk_faults };
 
-    ghost reading_keeps_output = { λ a b read. (ap (λ k. k.history.now.out) read, ap (λ k. k.output_faults) read) };
+    ghost reading_keeps_output = { λ a b read. (ap (λ k. k.out) read.kept, ap (λ k. k.output_faults) read.kept) };
 
     ghost output_now = { λ h told. refl };
 
     ghost read_may_be_left = { λ h told honest file. may_be_left (contents_of h.devices.first) h.devices.calls.items file };
 
-    ghost reading_passes = { λ a b read told. still_since (ap (λ k. k.history) read) };
+    ghost reading_passes = { λ a b read told. read.read.moments };
 
-    ghost reading_keeps_files = { λ a b read. (ap (λ k. k.files) read, ap (λ k. k.standing) read, ap (λ k. k.disk_faults) read) };
+    ghost reading_takes = { λ a b read told. read.read.taken };
+
+    ghost reads_moment = { λ a b bytes told one made. takes_next (history_in a) (history_in b) bytes one.moment made };
+
+    ghost reads_asked = { λ a b bytes told one. one.moment };
+
+    ghost reading_keeps_files = { λ a b read. (ap (λ k. k.files) read.kept, ap (λ k. k.standing) read.kept, ap (λ k. k.disk_faults) read.kept) };
 
     fn write_output(&mut self, bytes: &[u8]) -> Result<usize, HostFault>
         ensures bound { WritesAtMost result bytes.now }
         ensures output { AddsOutput (output_in self.old) (output_in self.new) bytes.now result }
-        ensures none { IfOk result (λ n. n ≡ 0 → 0 < length bytes.now → Rose self.old.output_faults self.new.output_faults) }
-        ensures moments { Since (IsPrinted (history_in self.old).now bytes.now) (history_in self.old) (history_in self.new) }
-        ensures cause { HasCause self.old.output_faults self.new.output_faults result }
-        ensures no_fault { OnOk result (self.new.output_faults ≡ self.old.output_faults) }
+        ensures moments { Passes (IsPrinted (history_in self.old).now bytes.now) result (history_in self.old) (history_in self.new) }
+        ensures cause { HasOutputCause self.old.output_faults self.new.output_faults bytes.now result }
         ensures input { left_of self.new.input ≡ left_of self.old.input }
         ensures input_faults { self.new.input_faults ≡ self.old.input_faults }
         ensures files { files_in self.new ≡ files_in self.old }
         ensures standing { standing_in self.new ≡ standing_in self.old }
         ensures disk_faults { self.new.disk_faults ≡ self.old.disk_faults }
-        ensures listed { IsErrOf result HostFault.Fault ↔ Contains (failing_of self.old) (calls_of self.old) }
+        ensures fault { IsErrOf result HostFault.Fault → Contains (failing_of self.old) (calls_of self.old) }
+        ensures listed { Contains (failing_of self.old) (calls_of self.old) → IsErrOf result HostFault.Fault ⊎ IsErrOf result HostFault.NoMemory }
         ensures calls { calls_of self.new ≡ min (calls_of self.old + 1) (2 ^ 64 - 1) }
         ensures failing { failing_of self.new ≡ failing_of self.old }
     {
         if self.fails_now() {
+            self.devices.push_output(&[])?;
             self.output_faults = self.output_faults.saturating_add(1);
             return Err(HostFault::Fault);
         }
@@ -238,7 +239,6 @@ impl Host for MemHost {
         ensures files { files_in self.new ≡ files_in self.old }
         ensures history { history_in self.new ≡ history_in self.old }
         ensures cause { HasMountCause self.old.disk_faults self.new.disk_faults result }
-        ensures no_fault { OnOk result (self.new.disk_faults ≡ self.old.disk_faults) }
         ensures input { left_of self.new.input ≡ left_of self.old.input }
         ensures input_faults { self.new.input_faults ≡ self.old.input_faults }
         ensures output { output_in self.new ≡ output_in self.old }
@@ -268,19 +268,24 @@ impl Host for MemHost {
     fn len(&mut self, file: FileKind) -> Result<u64, HostFault>
         ensures length { IfOk result (λ n. n ≡ length (of (files_in self.new) file)) }
         ensures files { files_in self.new ≡ files_in self.old }
-        ensures history { history_in self.new ≡ history_in self.old }
+        ensures moments { Passes (IsStill (history_in self.old).now) result (history_in self.old) (history_in self.new) }
         ensures cause { HasCause self.old.disk_faults self.new.disk_faults result }
-        ensures no_fault { OnOk result (self.new.disk_faults ≡ self.old.disk_faults) }
         ensures standing { standing_in self.new ≡ standing_in self.old }
         ensures input { left_of self.new.input ≡ left_of self.old.input }
         ensures input_faults { self.new.input_faults ≡ self.old.input_faults }
         ensures output { output_in self.new ≡ output_in self.old }
         ensures output_faults { self.new.output_faults ≡ self.old.output_faults }
-        ensures listed { IsErrOf result HostFault.Fault ↔ Contains (failing_of self.old) (calls_of self.old) }
+        ensures fault { IsErrOf result HostFault.Fault → Contains (failing_of self.old) (calls_of self.old) }
+        ensures listed { Contains (failing_of self.old) (calls_of self.old) → IsErrOf result HostFault.Fault ⊎ IsErrOf result HostFault.NoMemory }
         ensures calls { calls_of self.new ≡ min (calls_of self.old + 1) (2 ^ 64 - 1) }
         ensures failing { failing_of self.new ≡ failing_of self.old }
     {
-        self.reach_disk()?;
+        if self.fails_now() {
+            self.devices.look()?;
+            self.count_disk_fault();
+            return Err(HostFault::Fault);
+        }
+        self.devices.look()?;
         Ok(self.devices.get(file).len() as u64)
     }
 
@@ -289,19 +294,24 @@ impl Host for MemHost {
         ensures bytes { OnOk result (buf.new ≡ piece at (length buf.new) (of (files_in self.new) file)) }
         ensures buffer { OnErr result (buf.new ≡ buf.old) }
         ensures files { files_in self.new ≡ files_in self.old }
-        ensures history { history_in self.new ≡ history_in self.old }
+        ensures moments { Passes (IsStill (history_in self.old).now) result (history_in self.old) (history_in self.new) }
         ensures cause { HasCause self.old.disk_faults self.new.disk_faults result }
-        ensures no_fault { OnOk result (self.new.disk_faults ≡ self.old.disk_faults) }
         ensures standing { standing_in self.new ≡ standing_in self.old }
         ensures input { left_of self.new.input ≡ left_of self.old.input }
         ensures input_faults { self.new.input_faults ≡ self.old.input_faults }
         ensures output { output_in self.new ≡ output_in self.old }
         ensures output_faults { self.new.output_faults ≡ self.old.output_faults }
-        ensures listed { IsErrOf result HostFault.Fault ↔ Contains (failing_of self.old) (calls_of self.old) }
+        ensures fault { IsErrOf result HostFault.Fault → Contains (failing_of self.old) (calls_of self.old) }
+        ensures listed { Contains (failing_of self.old) (calls_of self.old) → IsErrOf result HostFault.Fault ⊎ IsErrOf result HostFault.NoMemory }
         ensures calls { calls_of self.new ≡ min (calls_of self.old + 1) (2 ^ 64 - 1) }
         ensures failing { failing_of self.new ≡ failing_of self.old }
     {
-        self.reach_disk()?;
+        if self.fails_now() {
+            self.devices.look()?;
+            self.count_disk_fault();
+            return Err(HostFault::Fault);
+        }
+        self.devices.look()?;
         self.devices.read(file, at, buf);
         Ok(())
     }
@@ -311,60 +321,68 @@ impl Host for MemHost {
         ensures room { OnOk result (at + length bytes.now ≤ 2 ^ 62) }
         ensures ok { OnOk result (files_in self.new ≡ with_ (files_in self.old) file (overwrite (of (files_in self.old) file) at bytes.now)) }
         ensures err { OnErr result (files_in self.new ≡ files_in self.old) }
-        ensures moments { Since (IsWritten (history_in self.old).now file at (length bytes.now)) (history_in self.old) (history_in self.new) }
-        ensures pending { OnOk result (IsWritten (history_in self.old).now file at (length bytes.now) (history_in self.new).now) }
+        ensures moments { Passes (IsWritten (history_in self.old).now file at (length bytes.now)) result (history_in self.old) (history_in self.new) }
         ensures cause { HasCause self.old.disk_faults self.new.disk_faults result }
-        ensures no_fault { OnOk result (self.new.disk_faults ≡ self.old.disk_faults) }
         ensures standing { standing_in self.new ≡ standing_in self.old }
         ensures input { left_of self.new.input ≡ left_of self.old.input }
         ensures input_faults { self.new.input_faults ≡ self.old.input_faults }
         ensures output { output_in self.new ≡ output_in self.old }
         ensures output_faults { self.new.output_faults ≡ self.old.output_faults }
-        ensures listed { IsErrOf result HostFault.Fault ↔ Contains (failing_of self.old) (calls_of self.old) }
+        ensures fault { IsErrOf result HostFault.Fault → Contains (failing_of self.old) (calls_of self.old) }
+        ensures listed { Contains (failing_of self.old) (calls_of self.old) → IsErrOf result HostFault.Fault ⊎ IsErrOf result HostFault.NoMemory }
         ensures calls { calls_of self.new ≡ min (calls_of self.old + 1) (2 ^ 64 - 1) }
         ensures failing { failing_of self.new ≡ failing_of self.old }
     {
-        self.reach_disk()?;
+        if self.fails_now() {
+            self.devices.fail_write(file, at, bytes.len())?;
+            self.count_disk_fault();
+            return Err(HostFault::Fault);
+        }
         self.devices.write(file, at, bytes)
     }
 
     fn cut(&mut self, file: FileKind, len: u64) -> Result<(), HostFault>
         ensures ok { OnOk result (files_in self.new ≡ with_ (files_in self.old) file (take len (of (files_in self.old) file))) }
         ensures err { OnErr result (files_in self.new ≡ files_in self.old) }
-        ensures moments { Since (IsCut (history_in self.old).now file len) (history_in self.old) (history_in self.new) }
-        ensures pending { OnOk result (IsCut (history_in self.old).now file len (history_in self.new).now) }
+        ensures moments { Passes (IsCut (history_in self.old).now file len) result (history_in self.old) (history_in self.new) }
         ensures cause { HasCause self.old.disk_faults self.new.disk_faults result }
-        ensures no_fault { OnOk result (self.new.disk_faults ≡ self.old.disk_faults) }
         ensures standing { standing_in self.new ≡ standing_in self.old }
         ensures input { left_of self.new.input ≡ left_of self.old.input }
         ensures input_faults { self.new.input_faults ≡ self.old.input_faults }
         ensures output { output_in self.new ≡ output_in self.old }
         ensures output_faults { self.new.output_faults ≡ self.old.output_faults }
-        ensures listed { IsErrOf result HostFault.Fault ↔ Contains (failing_of self.old) (calls_of self.old) }
+        ensures fault { IsErrOf result HostFault.Fault → Contains (failing_of self.old) (calls_of self.old) }
+        ensures listed { Contains (failing_of self.old) (calls_of self.old) → IsErrOf result HostFault.Fault ⊎ IsErrOf result HostFault.NoMemory }
         ensures calls { calls_of self.new ≡ min (calls_of self.old + 1) (2 ^ 64 - 1) }
         ensures failing { failing_of self.new ≡ failing_of self.old }
     {
-        self.reach_disk()?;
+        if self.fails_now() {
+            self.devices.fail_cut(file, len)?;
+            self.count_disk_fault();
+            return Err(HostFault::Fault);
+        }
         self.devices.cut(file, len)
     }
 
     fn sync(&mut self, file: FileKind) -> Result<(), HostFault>
         ensures files { files_in self.new ≡ files_in self.old }
-        ensures moments { OnOk result (Since (IsSynced (history_in self.old).now file (of (files_in self.old) file)) (history_in self.old) (history_in self.new)) }
-        ensures settled { OnOk result (IsSynced (history_in self.old).now file (of (files_in self.old) file) (history_in self.new).now) }
-        ensures still { OnErr result (history_in self.new ≡ history_in self.old) }
+        ensures moments { Passes (IsSyncing (history_in self.old).now file (of (files_in self.old) file) result) result (history_in self.old) (history_in self.new) }
         ensures cause { HasCause self.old.disk_faults self.new.disk_faults result }
-        ensures no_fault { OnOk result (self.new.disk_faults ≡ self.old.disk_faults) }
         ensures standing { standing_in self.new ≡ standing_in self.old }
         ensures input { left_of self.new.input ≡ left_of self.old.input }
         ensures input_faults { self.new.input_faults ≡ self.old.input_faults }
         ensures output { output_in self.new ≡ output_in self.old }
         ensures output_faults { self.new.output_faults ≡ self.old.output_faults }
-        ensures listed { IsErrOf result HostFault.Fault ↔ Contains (failing_of self.old) (calls_of self.old) }
+        ensures fault { IsErrOf result HostFault.Fault → Contains (failing_of self.old) (calls_of self.old) }
+        ensures listed { Contains (failing_of self.old) (calls_of self.old) → IsErrOf result HostFault.Fault ⊎ IsErrOf result HostFault.NoMemory }
         ensures calls { calls_of self.new ≡ min (calls_of self.old + 1) (2 ^ 64 - 1) }
         ensures failing { failing_of self.new ≡ failing_of self.old }
     {
-        self.reach_disk()?;
+        if self.fails_now() {
+            self.devices.look()?;
+            self.count_disk_fault();
+            return Err(HostFault::Fault);
+        }
         self.devices.sync(file)
     }
 }

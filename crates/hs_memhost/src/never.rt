@@ -1,5 +1,5 @@
 // A host in memory whose devices never fail.
-ghost use Rattle.std.specs.Prelude.{◌≡◌, ◌++◌, [], None, false, true, refl};
+ghost use Rattle.std.specs.Prelude.{◌≡◌, ◌∷◌, [], None, false, true, refl};
 ghost use Rattle.std.proofs.Common.{◌∙◌, ap};
 ghost use Rattle.hs_memhost.specs.Input.{left_of};
 ghost use Rattle.hs_host.specs.Files.{of};
@@ -56,7 +56,9 @@ impl NeverFails {
 }
 
 impl Source for NeverFails {
-    ghost use Rattle.hs_memhost.specs.Never.{kept_of};
+    ghost use Rattle.hs_memhost.specs.Devices.{history_on};
+    ghost use Rattle.hs_memhost.specs.Never.{OnlyInput, IsOneRead};
+    ghost use Rattle.hs_memhost.specs.Reading.{reads_none, reads_then};
 
     ghost tells = { Unit {0} };
 
@@ -64,16 +66,23 @@ impl Source for NeverFails {
 
     ghost input_faults = { λ h. 0 };
 
-    ghost only_input = { λ a b. kept_of b ≡ kept_of a };
+    ghost only_input = { OnlyInput };
 
-    ghost nothing_read = { λ h. refl };
+    ghost nothing_read = { λ h. record { kept = refl; read = reads_none (history_on h.devices) (left_of h.input) } };
 
-    ghost read_on = { λ a b c ab bc. bc ∙ ab };
+    ghost read_on = { λ a b c ab bc. record { kept = bc.kept ∙ ab.kept; read = reads_then (history_on a.devices) (history_on b.devices) (history_on c.devices) (left_of a.input) (left_of b.input) (left_of c.input) ab.read bc.read } };
 
-    ghost reads = { λ a b bytes. left_of a.input ≡ bytes ++ left_of b.input };
+    ghost reads = { IsOneRead };
+
+    ghost makes_moment = { λ a b. (history_on b.devices).past ≡ (history_on a.devices).now ∷ (history_on a.devices).past };
+
+    ghost reads_unread = { λ a b bytes told one. one.taken };
 
     fn read_input(&mut self, buf: &mut [u8]) -> Result<usize, HostFault> {
-        Ok(self.input.read(buf))
+        let count = self.input.next_count(buf.len());
+        self.devices.take_input(self.input.front(count))?;
+        self.input.take(buf, count);
+        Ok(count)
     }
 }
 
@@ -82,7 +91,7 @@ impl Host for NeverFails {
     ghost use Rattle.hs_memhost.specs.Files.{contents_of};
     ghost use Rattle.hs_memhost.specs.Left.{may_be_left};
     ghost use Rattle.hs_memhost.specs.Mounting.{standing_of};
-    ghost use Rattle.hs_memhost.specs.Replay.{still_since};
+    ghost use Rattle.hs_memhost.specs.Reading.{takes_next};
 
     ghost written = { λ h. (history_on h.devices).now.out };
 
@@ -96,15 +105,21 @@ impl Host for NeverFails {
 
     ghost disk_faults = { λ h. 0 };
 
-    ghost reading_keeps_output = { λ a b read. (ap (λ k. k.history.now.out) read, refl) };
+    ghost reading_keeps_output = { λ a b read. (ap (λ k. k.out) read.kept, refl) };
 
     ghost output_now = { λ h told. refl };
 
     ghost read_may_be_left = { λ h told honest file. may_be_left (contents_of h.devices.first) h.devices.calls.items file };
 
-    ghost reading_passes = { λ a b read told. still_since (ap (λ k. k.history) read) };
+    ghost reading_passes = { λ a b read told. read.read.moments };
 
-    ghost reading_keeps_files = { λ a b read. (ap (λ k. k.files) read, ap (λ k. k.standing) read, refl) };
+    ghost reading_takes = { λ a b read told. read.read.taken };
+
+    ghost reads_moment = { λ a b bytes told one made. takes_next (history_on a.devices) (history_on b.devices) bytes one.moment made };
+
+    ghost reads_asked = { λ a b bytes told one. one.moment };
+
+    ghost reading_keeps_files = { λ a b read. (ap (λ k. k.files) read.kept, ap (λ k. k.standing) read.kept, refl) };
 
     fn write_output(&mut self, bytes: &[u8]) -> Result<usize, HostFault> {
         self.devices.push_output(bytes)?;
@@ -120,10 +135,12 @@ impl Host for NeverFails {
     }
 
     fn len(&mut self, file: FileKind) -> Result<u64, HostFault> {
+        self.devices.look()?;
         Ok(self.devices.get(file).len() as u64)
     }
 
     fn read(&mut self, file: FileKind, at: u64, buf: &mut [u8]) -> Result<(), HostFault> {
+        self.devices.look()?;
         self.devices.read(file, at, buf);
         Ok(())
     }

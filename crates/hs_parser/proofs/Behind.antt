@@ -258,10 +258,10 @@ along (rule n ∷ a) k out s h r = along a (knows n) out s h r
 empty_is : {c : ℕ} {cs : List ℕ} → [] ≡ c ∷ cs → ⊥
 empty_is e = cc
 
-first_is : {a b : ℕ} {as bs : List ℕ} → a ∷ as ≡ b ∷ bs → a ≡ b
+first_is : {a b : ℕ} {cs ds : List ℕ} → a ∷ cs ≡ b ∷ ds → a ≡ b
 first_is e = cc
 
-rest_is : {a b : ℕ} {as bs : List ℕ} → a ∷ as ≡ b ∷ bs → as ≡ bs
+rest_is : {a b : ℕ} {cs ds : List ℕ} → a ∷ cs ≡ b ∷ ds → cs ≡ ds
 rest_is e = cc
 
 slice_get-drop_first : {A : Type 0} (xs : List A) (n : ℕ) (x : A) (rest : List A) → drop n xs ≡ x ∷ rest → slice_get xs n ≡ Some x
@@ -439,9 +439,9 @@ module _ (text : List ℕ) (tokens : List Token) where
 
   there : (all : List Token) (n : ℕ) (t : Token) (rest : List Token) → drop n all ≡ t ∷ rest → (token_at all n ≡ t) × (drop (n + 1) all ≡ rest)
   there all n t rest e = (
-      ap (λ o. unwrap_or o (token_at [] 0)) (slice_get-drop_first all n t rest e),
-      sym (drop-drop 1 n all) ∙ ap (drop 1) e,
-    )
+    ap (λ o. unwrap_or o (token_at [] 0)) (slice_get-drop_first all n t rest e),
+    sym (drop-drop 1 n all) ∙ ap (drop 1) e,
+  )
 
   -- ---- a statement's items
 
@@ -469,6 +469,9 @@ module _ (text : List ℕ) (tokens : List Token) where
         left = record { left = rest; behind_taken = h.1; taken_by = rest_is e; sound = s.1 };
       }
 
+  skip : (taken a : ℕ) (w : List Item) → Left taken (item.Mark a ∷ w) → Left taken w
+  skip taken a w l = record { left = l.left; behind_taken = l.behind_taken; taken_by = l.taken_by; sound = l.sound }
+
   next : (taken c : ℕ) (w : List Item) → Left taken (item.Token c ∷ w) → Next taken c w
   next taken c w l = next_of taken c w l.left l.behind_taken l.taken_by l.sound
 
@@ -487,7 +490,7 @@ module _ (text : List ℕ) (tokens : List Token) where
       → Then (λ (y : Parts). AreLawful y) (built text tokens taken (item.Token c ∷ item.Mark m.number ∷ item.Token comma ∷ item.Token d ∷ item.Mark m.number ∷ w) p)
   scaled_now taken c d w p c1 c38 d0 dc l left go =
       let n1 = next taken c (item.Mark m.number ∷ item.Token comma ∷ item.Token d ∷ item.Mark m.number ∷ w) left in
-      let n2 = next (taken + 1) comma (item.Token d ∷ item.Mark m.number ∷ w) n1.left in
+      let n2 = next (taken + 1) comma (item.Token d ∷ item.Mark m.number ∷ w) (skip (taken + 1) m.number (item.Token comma ∷ item.Token d ∷ item.Mark m.number ∷ w) n1.left) in
       let n3 = next (taken + 1 + 1) d (item.Mark m.number ∷ w) n2.left in
       let t = token_at tokens (taken + 1 - 1) in
       let u = token_at tokens (taken + 1 + 1 + 1 - 1) in
@@ -502,8 +505,8 @@ module _ (text : List ℕ) (tokens : List Token) where
       let wide = precision_of a.0 (omega (arith, n1.is, a.2)) (omega (arith, n1.is, a.2)) in
       let small = scale_within b.0 a.0 (omega (arith, n1.is, n3.is, a.2, b.2)) (omega (arith, n1.is, a.2)) in
       let is : law.is_type (type.Decimal (natural (number_in (written text t)).units) (natural (number_in (written text u)).units)) ≡ true =
-          ap (λ z. law.is_type (type.Decimal (natural z) (natural (number_in (written text u)).units))) a.1 ∙ ap (λ z. law.is_type (type.Decimal a.0 (natural z))) b.1 ∙ scaled_is a.0 b.0 wide small in
-      go p2 l2 (record { left = n3.left.left; behind_taken = n3.left.behind_taken; taken_by = n3.left.taken_by; sound = n3.left.sound }) (record { token = tt; number = tt; digits = absurd; unsigned = absurd; is_scaled = λ h. is })
+      ap (λ z. law.is_type (type.Decimal (natural z) (natural (number_in (written text u)).units))) a.1 ∙ ap (λ z. law.is_type (type.Decimal a.0 (natural z))) b.1 ∙ scaled_is a.0 b.0 wide small in
+      go p2 l2 (skip (taken + 1 + 1 + 1) m.number w n3.left) (record { token = tt; number = tt; digits = absurd; unsigned = absurd; is_scaled = λ h. is })
 
   at_mark : (o : Option Mark) (k : Known) (taken : ℕ) (w : List Item) (p : Parts) → T (may o k) → Holds k taken p → AreLawful p
       → ((z : Parts) → AreLawful z → Holds (after o k) taken z → Then (λ (y : Parts). AreLawful y) (built text tokens taken w z)) → Then (λ (y : Parts). AreLawful y) (and_then (marked text tokens taken o p) (built text tokens taken w))
@@ -521,7 +524,7 @@ module _ (text : List ℕ) (tokens : List Token) where
   kept (takes_scaled {p = c} {d = e} {s = s} {w = w} c1 c38 e0 ec d) k taken p r i l left =
       scaled_now taken c e w p c1 c38 e0 ec l left (λ z lz lf hz. kept d behind_scale (taken + 1 + 1 + 1) z r hz lz lf)
   kept (builds {k = n} {s = s} {w = w} d) k taken p r i l left =
-      at_mark (slice_get steps n) k taken w p r.0 i l (λ z lz hz. kept d (after (slice_get steps n) k) taken z r.1 hz lz (record { left = left.left; behind_taken = left.behind_taken; taken_by = left.taken_by; sound = left.sound }))
+      at_mark (slice_get steps n) k taken w p r.0 i l (λ z lz hz. kept d (after (slice_get steps n) k) taken z r.1 hz lz (skip taken n w left))
   kept (goes_on {n = n} {s = s} {w = w} q b f d) k taken p r i l left =
       let test = all_at (length productions) is_sound q all_sound b in
       let out : only ((production q).from == literal_rule) ≡ knows n = ap (λ z. only (z == literal_rule)) f in

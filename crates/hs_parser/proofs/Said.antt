@@ -30,11 +30,11 @@ found : (test : ℕ → Bool) (t : Bool) (a b : ℕ) → T (test a) → T (test 
 found test true a b h k = h
 found test false a b h k = k
 
-lookup_all : (test : ℕ → Bool) (entries : List (List ℕ × ℕ)) (word : List ℕ) (other : ℕ) → T (list_all (λ e. test e.1) entries) → T (test other) → T (test (lookup entries word other))
-lookup_all test [] word other h o = o
-lookup_all test (entry ∷ entries) word other h o =
-    found test (str_eq_ignore_ascii_case entry.0 word) entry.1 (lookup entries word other) (and_left (test entry.1) (list_all (λ e. test e.1) entries) h)
-    (lookup_all test entries word other (and_right (test entry.1) (list_all (λ e. test e.1) entries) h) o)
+lookup_all : (test : ℕ → Bool) (entries : List (List ℕ × ℕ)) (spelling : List ℕ) (other : ℕ) → T (list_all (λ e. test e.1) entries) → T (test other) → T (test (lookup entries spelling other))
+lookup_all test [] spelling other h o = o
+lookup_all test (entry ∷ entries) spelling other h o =
+    found test (str_eq_ignore_ascii_case entry.0 spelling) entry.1 (lookup entries spelling other) (and_left (test entry.1) (list_all (λ e. test e.1) entries) h)
+    (lookup_all test entries spelling other (and_right (test entry.1) (list_all (λ e. test e.1) entries) h) o)
 
 abbrev is_sign_class : ℕ → Bool
 is_sign_class c = list_any (λ e. e.1 == c) signs || c == nothing
@@ -43,9 +43,9 @@ is_sign_class c = list_any (λ e. e.1 == c) signs || c == nothing
 abbrev pub is_word_class : ℕ → Bool
 is_word_class c = nat_lt other_text c && not (is_sign_class c)
 
-word_above : (word : List ℕ) → T (nat_lt other_text (word_class word))
+word_above : (spelling : List ℕ) → T (nat_lt other_text (word_class spelling))
 unfolding word_class
-word_above word = lookup_all (nat_lt other_text) words word identifier tt tt
+word_above spelling = lookup_all (nat_lt other_text) words spelling identifier tt tt
 
 sign_above : (sign : List ℕ) → T (nat_lt other_text (sign_class sign))
 unfolding sign_class
@@ -66,9 +66,9 @@ number_below : (number : List ℕ) → number_class number ≤ fraction
 unfolding number_class
 number_below number = when_point (list_any (λ b. b == 46) number) (value_after 0 number)
 
-text_is : (text : List ℕ) (t : Bool) → (if t then digit_text else other_text) ≡ digit_text → t ≡ true
-text_is text true h = refl
-text_is text false h = cc
+text_is : (t : Bool) → (if t then digit_text else other_text) ≡ digit_text → t ≡ true
+text_is true h = refl
+text_is false h = cc
 
 text_between : (t : Bool) → (fraction < (if t then digit_text else other_text)) × ((if t then digit_text else other_text) ≤ other_text)
 text_between true = (omega arith, omega arith)
@@ -157,7 +157,7 @@ bound (b ∷ bytes) u h =
 
 below : (bytes : List ℕ) (most : ℕ) → list_all is_part bytes ≡ true → digits_in bytes ≤ most → units_of bytes < 10 ^ most
 below bytes most h k =
-    let grows : 10 ^ digits_in bytes ≤ 10 ^ most = pow-le-pow_right {10} (omega arith) {digits_in bytes} {most} k in
+    let grows : 10 ^ digits_in bytes ≤ 10 ^ most = pow-le-pow_right {n = 10} (omega arith) {i = digits_in bytes} {j = most} k in
     omega (arith, bound bytes 0 h, grows)
 
 digits_are : (digits : List ℕ) → is_digits digits ≡ true → list_all is_digit digits ≡ true
@@ -190,38 +190,38 @@ scale_none [] h = refl
 scale_none (b ∷ digits) h =
     ap (λ z. if z then length digits else scale_of digits) (not_point b (all_left (is_digit b) (list_all is_digit digits) h)) ∙ scale_none digits (all_right (is_digit b) (list_all is_digit digits) h)
 
-scale_pointed : (digits fraction : List ℕ) → list_all is_digit digits ≡ true → scale_of (digits ++ 46 ∷ fraction) ≡ length fraction
-scale_pointed [] fraction h = refl
-scale_pointed (b ∷ digits) fraction h =
-    ap (λ z. if z then length (digits ++ 46 ∷ fraction) else scale_of (digits ++ 46 ∷ fraction)) (not_point b (all_left (is_digit b) (list_all is_digit digits) h))
-    ∙ scale_pointed digits fraction (all_right (is_digit b) (list_all is_digit digits) h)
+scale_pointed : (digits part : List ℕ) → list_all is_digit digits ≡ true → scale_of (digits ++ 46 ∷ part) ≡ length part
+scale_pointed [] part h = refl
+scale_pointed (b ∷ digits) part h =
+    ap (λ z. if z then length (digits ++ 46 ∷ part) else scale_of (digits ++ 46 ∷ part)) (not_point b (all_left (is_digit b) (list_all is_digit digits) h))
+    ∙ scale_pointed digits part (all_right (is_digit b) (list_all is_digit digits) h)
 
-count_pointed : (digits fraction : List ℕ) → list_all is_digit digits ≡ true → digits_in (digits ++ 46 ∷ fraction) ≡ length digits + digits_in fraction
+count_pointed : (digits part : List ℕ) → list_all is_digit digits ≡ true → digits_in (digits ++ 46 ∷ part) ≡ length digits + digits_in part
 unfolding digits_in
-count_pointed [] fraction h = omega arith
-count_pointed (b ∷ digits) fraction h =
-    ap (λ z. cond z (1 + digits_in (digits ++ 46 ∷ fraction)) (digits_in (digits ++ 46 ∷ fraction))) (all_left (is_digit b) (list_all is_digit digits) h)
-    ∙ omega (arith, count_pointed digits fraction (all_right (is_digit b) (list_all is_digit digits) h))
+count_pointed [] part h = omega arith
+count_pointed (b ∷ digits) part h =
+    ap (λ z. cond z (1 + digits_in (digits ++ 46 ∷ part)) (digits_in (digits ++ 46 ∷ part))) (all_left (is_digit b) (list_all is_digit digits) h)
+    ∙ omega (arith, count_pointed digits part (all_right (is_digit b) (list_all is_digit digits) h))
 
 number_is : (number : List ℕ) → units_of number < 10 ^ 38 → scale_of number ≤ 38 → law.is_literal (literal.Number (number_in number)) ≡ true
 number_is number h k =
     ap (λ z. (z && nat_le (scale_of number) 38) && true) (lt_true (units_of number) (10 ^ 38) h) ∙ ap (λ z. z && true) (le_true (scale_of number) 38 k)
 
-spelled : (number : List ℕ) → Spells (lexeme.Token Number) number → count_by is_digit number ≤ 38 → law.is_literal (literal.Number (number_in number)) ≡ true
-spelled digits (whole digits h) short =
+spelled : {number : List ℕ} → Spells (lexeme.Token Number) number → count_by is_digit number ≤ 38 → law.is_literal (literal.Number (number_in number)) ≡ true
+spelled (whole digits h) short =
     let all = digits_are digits h in
     number_is digits (below digits 38 (parts_are digits all) (omega (arith, digits_counted digits))) (omega (arith, scale_none digits all))
-spelled number (pointed digits fraction d f) short =
+spelled (pointed digits part d f) short =
     let all = digits_are digits d in
-    let rest = digits_are fraction f in
-    let counted : length digits + length fraction ≤ 38 = omega (arith, digits_counted (digits ++ 46 ∷ fraction), count_pointed digits fraction all, all_digits fraction rest) in
-    number_is (digits ++ 46 ∷ fraction) (below (digits ++ 46 ∷ fraction) 38 (parts_joined digits fraction (parts_are digits all) (parts_are fraction rest)) (omega (arith, digits_counted (digits ++ 46 ∷ fraction))))
-    (omega (arith, scale_pointed digits fraction all))
+    let rest = digits_are part f in
+    let counted : length digits + length part ≤ 38 = omega (arith, digits_counted (digits ++ 46 ∷ part), count_pointed digits part all, all_digits part rest) in
+    number_is (digits ++ 46 ∷ part) (below (digits ++ 46 ∷ part) 38 (parts_joined digits part (parts_are digits all) (parts_are part rest)) (omega (arith, digits_counted (digits ++ 46 ∷ part))))
+    (omega (arith, scale_pointed digits part all))
 
 numbered_as : (source : List ℕ) (t : Token) (kind : TokenKind) → class_in kind source t ≤ fraction → IsSoundAs kind source t → law.is_literal (literal.Number (number_in (written source t))) ≡ true
 numbered_as source t Word h s = absurd (let a = lt_of other_text (word_class (written source t)) (word_above (written source t)) in omega arith)
 numbered_as source t Quoted h s = absurd (omega arith)
-numbered_as source t Number h s = spelled (written source t) s.spelled s.short
+numbered_as source t Number h s = spelled s.spelled s.short
 numbered_as source t Text h s = absurd (let a = text_between (is_digit_text (text_of source t)) in omega (arith, a.0))
 numbered_as source t UnicodeText h s = absurd (let a = text_between (is_digit_text (text_of source t)) in omega (arith, a.0))
 numbered_as source t Symbol h s = absurd (let a = lt_of other_text (sign_class (written source t)) (sign_above (written source t)) in omega arith)
@@ -267,13 +267,13 @@ whole_said source t h = whole_as source t t.kind h
 
 -- ---- digits of an INTERVAL
 
-digits_told : (text : List ℕ) → text_class text ≡ digit_text → law.is_count (units_of text) ≡ true
-digits_told text h =
-    let is = text_is text (is_digit_text text) h in
-    let sized = all_left (nat_lt 0 (length text) && nat_le (length text) 18) (list_all is_digit text) is in
-    let all = all_right (nat_lt 0 (length text) && nat_le (length text) 18) (list_all is_digit text) is in
-    let short = le_of (length text) 18 (all_right (nat_lt 0 (length text)) (nat_le (length text) 18) sized) in
-    lt_true (units_of text) (10 ^ 18) (below text 18 (parts_are text all) (omega (arith, all_digits text all)))
+digits_told : (told : List ℕ) → text_class told ≡ digit_text → law.is_count (units_of told) ≡ true
+digits_told told h =
+    let is = text_is (is_digit_text told) h in
+    let sized = all_left (nat_lt 0 (length told) && nat_le (length told) 18) (list_all is_digit told) is in
+    let all = all_right (nat_lt 0 (length told) && nat_le (length told) 18) (list_all is_digit told) is in
+    let short = le_of (length told) 18 (all_right (nat_lt 0 (length told)) (nat_le (length told) 18) sized) in
+    lt_true (units_of told) (10 ^ 18) (below told 18 (parts_are told all) (omega (arith, all_digits told all)))
 
 digits_as : (source : List ℕ) (t : Token) (kind : TokenKind) → class_in kind source t ≡ digit_text → law.is_count (units_of (text_of source t)) ≡ true
 digits_as source t Word h = absurd (let a = lt_of other_text (word_class (written source t)) (word_above (written source t)) in omega arith)

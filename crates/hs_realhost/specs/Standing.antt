@@ -1,7 +1,7 @@
 -- How a host over real files stands to them.
 use Rattle.std.specs.Prelude.{ℕ, List, [], Bool, false, Option}
 use Rattle.hs_host.specs.Files.{Five, Standing}
-use Rattle.hs_host.specs.Moments.{History, settled_files}
+use Rattle.hs_host.specs.Moments.{begun, History, settled_files}
 
 -- It tells its name and whether its files are open, and claims nothing else.
 abbrev pub standing_of : Option (List ℕ) → Bool → Standing
@@ -12,4 +12,4 @@ abbrev pub no_files : Five (List ℕ)
 no_files = record { script0 = []; script1 = []; log = []; data_ = []; backup = [] }
 
 abbrev pub no_history : History
-no_history = record { now = record { disks = settled_files no_files; out = [] }; past = [] }
+no_history = record { now = record { disks = settled_files no_files; out = []; taken = []; call = begun }; past = [] }

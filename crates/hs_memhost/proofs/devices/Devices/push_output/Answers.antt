@@ -2,7 +2,7 @@ use Rattle.std.proofs.Common.{[], ap, ◌∙◌, refl, append-nil}
 use Rattle.hs_memhost.specs.declared.call.Call.TheVariants as call
 use Rattle.hs_memhost.specs.Files.{contents_of}
 use Rattle.hs_memhost.specs.Replay.{State}
-use Rattle.hs_memhost.proofs.Replayed.{pushed, since_pushed}
+use Rattle.hs_memhost.proofs.Replayed.{pushed, next_pushed}
 use Rattle.hs_memhost.proofs.devices.Devices.push_output.Goals as goal
 
 pub invariant_of-self : goal.invariant_of-self
@@ -17,5 +17,5 @@ pub returns-clause-ok : goal.returns-clause-ok
 returns-clause-ok c = ap (λ (s : State). s.moment.out) (pushed (contents_of c.args.self.now.first) c.args.self.now.calls.items c.keep_output.new.calls.items (call.Output c.args.bytes.now) c.in_ok-keep_output.ensures.ok)
 
 pub returns-clause-moments : goal.returns-clause-moments
-returns-clause-moments c = since_pushed _ (contents_of c.args.self.now.first) c.args.self.now.calls.items c.keep_output.new.calls.items (call.Output c.args.bytes.now) c.in_ok-keep_output.ensures.ok
-    (record { disks = refl; piece = c.args.bytes.now; rest = []; out = refl; whole = append-nil c.args.bytes.now })
+returns-clause-moments c = next_pushed _ (contents_of c.args.self.now.first) c.args.self.now.calls.items c.keep_output.new.calls.items (call.Output c.args.bytes.now) c.in_ok-keep_output.ensures.ok
+    (record { piece = c.args.bytes.now; rest = []; is = refl; whole = append-nil c.args.bytes.now })

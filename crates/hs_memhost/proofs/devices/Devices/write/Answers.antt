@@ -5,7 +5,7 @@ use Rattle.hs_host.specs.Moments.{History, with_disk, disk_of}
 use Rattle.hs_memhost.specs.declared.call.Call.TheVariants as call
 use Rattle.hs_memhost.specs.Files.{contents_of}
 use Rattle.hs_memhost.specs.Replay.{State}
-use Rattle.hs_memhost.proofs.Replayed.{pushed, since_pushed, is_present, if_copied, since_from}
+use Rattle.hs_memhost.proofs.Replayed.{pushed, next_pushed, is_present, if_copied, next_from}
 use Rattle.hs_memhost.proofs.devices.Devices.write.Goals as goal
 
 pub invariant_of-self : goal.invariant_of-self
@@ -23,13 +23,8 @@ returns-clause-ok c =
     let d = c.copy_files.new.self in
     ap (λ (s : State). s.files) (pushed (contents_of d.first) d.calls.items c.keep_write.new.calls.items (call.Write c.args.file c.args.at c.args.bytes.now) c.in_ok-keep_write.ensures.ok) ∙ ap (λ (f : Five (List ℕ)). with_ f c.args.file (overwrite (of f c.args.file) c.args.at c.args.bytes.now)) c.in_ok-copy_files.ensures.files
 
-pub returns-clause-pending : goal.returns-clause-pending
-returns-clause-pending c =
-    let d = c.copy_files.new.self in
-    ap (λ (s : State). s.moment) (pushed (contents_of d.first) d.calls.items c.keep_write.new.calls.items (call.Write c.args.file c.args.at c.args.bytes.now) c.in_ok-keep_write.ensures.ok) ∙ ap (λ (h : History). with_disk h.now c.args.file (written_at c.args.at (length c.args.bytes.now) (disk_of h.now c.args.file))) c.in_ok-copy_files.ensures.history
-
 pub returns-clause-moments : goal.returns-clause-moments
 returns-clause-moments c =
     let d = c.copy_files.new.self in
-    since_from c.in_ok-copy_files.ensures.history (since_pushed _ (contents_of d.first) d.calls.items c.keep_write.new.calls.items (call.Write c.args.file c.args.at c.args.bytes.now) c.in_ok-keep_write.ensures.ok
+    next_from c.in_ok-copy_files.ensures.history (next_pushed _ (contents_of d.first) d.calls.items c.keep_write.new.calls.items (call.Write c.args.file c.args.at c.args.bytes.now) c.in_ok-keep_write.ensures.ok
     (ap (λ (h : History). with_disk h.now c.args.file (written_at c.args.at (length c.args.bytes.now) (disk_of h.now c.args.file))) c.in_ok-copy_files.ensures.history))
