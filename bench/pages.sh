@@ -181,7 +181,7 @@ RT
 fi
 
 printf '%-20s %12s %12s\n' call "median ns" "least ns"
-for label in $(cut -d' ' -f1 "$work/rounds" | sort -u); do
+while read -r label; do
     awk -v label="$label" '$1 == label { printf "%.2f\n", $3 / $2 }' "$work/rounds" | sort -n |
         awk -v label="$label" '{ all[NR] = $1 } END { printf "%-20s %12.2f %12.2f\n", label, all[int((NR + 1) / 2)], all[1] }'
-done
+done < <(cut -d' ' -f1 "$work/rounds" | sort -u)
