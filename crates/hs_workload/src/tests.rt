@@ -47,8 +47,8 @@ fn a_line_of_counts(rt: HostRuntime) -> Result<(), Fail> {
     };
     let line = counts.line(rt.alloc())?;
     assert!(rt;
-        *line.as_slice()
-            == *b"summary entries 107 ok 107 refused 0 waits 0 rolled back 1\n".as_slice()
+        line.as_slice()
+            == b"summary entries 107 ok 107 refused 0 waits 0 rolled back 1\n".as_slice()
     );
     Ok(())
 }
