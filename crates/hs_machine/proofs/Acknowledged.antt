@@ -190,7 +190,7 @@ led x text most clean says = record {
 }
 
 -- a name, whose last word is no number
-lacks_not : (a : ℕ) (xs ys : List ℕ) → lacks a (xs ++ a ∷ ys) ≡ false
+pub lacks_not : (a : ℕ) (xs ys : List ℕ) → lacks a (xs ++ a ∷ ys) ≡ false
 lacks_not a xs ys = by (lacks a (xs ++ a ∷ ys)) refl
   where
     by : (b : Bool) → lacks a (xs ++ a ∷ ys) ≡ b → lacks a (xs ++ a ∷ ys) ≡ false

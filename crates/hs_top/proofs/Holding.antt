@@ -19,14 +19,17 @@ use Rattle.hs_gate.specs.Groups.{groups_of, is_born, is_open, epoch_of}
 use Rattle.hs_gate.proofs.Torn.{as_before}
 use Rattle.hs_log.specs.Log.{IsLog, IsLogOf}
 use Rattle.hs_top.specs.declared.statement_log.StatementLog.{StatementLog}
-use Rattle.hs_top.specs.Crash.{AcknowledgesBehind}
+use Rattle.std.specs.Prelude.{◌==◌, ◌&&◌, not}
+use Rattle.std.proofs.lemmas.List.{append_cancel_left}
+use Rattle.hs_entries.specs.Parts.{lacks}
+use Rattle.hs_top.specs.Crash.{AcknowledgesBehind, HasNoLine}
 use Rattle.hs_top.specs.Holding.{IsHeld, IsGathered, IsAcknowledging, IsLogging, IsStep, IsHandedOver}
 use Rattle.hs_top.specs.Running.{Stands, UsesWork, OnlyLog, texts_in}
 use Rattle.hs_entries.specs.declared.item.Item.{Item}
-use Rattle.hs_machine.specs.Lines.{OpenedAt, ClosedAt, printed_line, printed}
+use Rattle.hs_machine.specs.Lines.{OpenedAt, ClosedAt, printed_line, printed, text_of}
 use Rattle.hs_top.specs.Machine.{State, step_of}
 use Rattle.hs_machine.specs.Acknowledged.{AcknowledgesAtMost, AcknowledgesLines}
-use Rattle.hs_machine.proofs.Acknowledged.{tells_nothing, fewer, more}
+use Rattle.hs_machine.proofs.Acknowledged.{fewer, more, lacks_not, nothing_tells}
 use Rattle.hs_top.specs.Acknowledged.{IsNamed}
 use Rattle.hs_top.proofs.Prefixes.{split_front}
 use Rattle.hs_top.proofs.Acknowledged.{opened_tells, closed_tells, step_tells, one_text}
@@ -77,12 +80,22 @@ pub told_and : {a b : History} (gathered piece more : List ℕ) → Since (IsHan
 told_and {a} {b} gathered piece more ab =
     since_weaker ab (λ m t. subst (λ (l : List ℕ). IsHandedOver a.now l m) (append_assoc gathered piece more) (handed_more a.now m (gathered ++ piece) more t))
 
+-- a line stays a line
+pub has_line_more : (xs ys : List ℕ) → lacks 10 xs ≡ false → lacks 10 (xs ++ ys) ≡ false
+has_line_more [] ys line = absurd (cc)
+has_line_more (x ∷ xs) ys line = by (not (x == 10)) (has_line_more xs ys) line
+  where
+    by : (b : Bool) → (lacks 10 xs ≡ false → lacks 10 (xs ++ ys) ≡ false) → (b && lacks 10 xs) ≡ false → (b && lacks 10 (xs ++ ys)) ≡ false
+    by true more none = more none
+    by false more none = refl
+
 -- what is gathered goes on where some of it was handed over
 pub gathered_on : (before old new whole gathered : List ℕ) (commits : ℕ) → new ++ gathered ≡ old ++ whole → length old ≤ length new → IsGathered before old whole commits → IsGathered before new gathered commits
 gathered_on before old new whole gathered commits is grown all =
     let parts = split_front new gathered old whole is grown in
     record {
       written = all.written ++ parts.0;
+      begun = has_line_more all.written parts.0 all.begun;
       is = parts.1.0 ∙ ap (λ (l : List ℕ). l ++ parts.0) all.is ∙ append_assoc before all.written parts.0;
       lines = subst (λ (l : List ℕ). AcknowledgesLines l commits) (sym (append_assoc all.written parts.0 gathered ∙ ap (λ (l : List ℕ). all.written ++ l) parts.1.1)) all.lines;
     }
@@ -92,6 +105,7 @@ pub gathered_step : (before out gathered : List ℕ) (item : Item) (s : State) �
     → IsGathered before out (gathered ++ printed (step_of item s).lines) (step_of item s).next.database.commits
 gathered_step before out gathered item s named all = record {
   written = all.written;
+  begun = all.begun;
   is = all.is;
   lines = subst (λ (l : List ℕ). AcknowledgesLines l (step_of item s).next.database.commits) (append_assoc all.written gathered (printed (step_of item s).lines)) (step_tells item s named (all.written ++ gathered) all.lines);
 }
@@ -119,18 +133,20 @@ telling_handed least before old new out new_out gathered new_gathered commits sa
   gathered = gathered_on before out new_out gathered new_gathered commits whole grown t.gathered;
 }
 
--- the first line tells of nothing
-pub first_gathered : (out gathered : List ℕ) (opened commits : ℕ) → gathered ≡ printed_line (OpenedAt opened) → IsGathered out out gathered commits
-first_gathered out gathered opened commits is = record {
-  written = [];
-  is = sym (append-nil out);
-  lines = subst (λ (l : List ℕ). AcknowledgesLines l commits) (sym is) (opened_tells [] commits opened (record { told = tells_nothing commits; ends = inl refl }));
+-- the first line, once it is handed over, tells of nothing
+pub first_gathered : (before out : List ℕ) (opened commits : ℕ) → out ≡ before ++ printed_line (OpenedAt opened) → IsGathered before out [] commits
+first_gathered before out opened commits is = record {
+  written = printed_line (OpenedAt opened);
+  is = is;
+  begun = lacks_not 10 (text_of (OpenedAt opened)) [];
+  lines = subst (λ (l : List ℕ). AcknowledgesLines l commits) (sym (append-nil (printed_line (OpenedAt opened)))) (opened_tells [] commits opened (nothing_tells commits));
 }
 
 -- and so does the last one
 pub last_gathered : (before out old new : List ℕ) (closed commits : ℕ) → new ≡ old ++ printed_line (ClosedAt closed) → IsGathered before out old commits → IsGathered before out new commits
 last_gathered before out old new closed commits is all = record {
   written = all.written;
+  begun = all.begun;
   is = all.is;
   lines = subst (λ (l : List ℕ). AcknowledgesLines l commits) (append_assoc all.written old (printed_line (ClosedAt closed)) ∙ ap (λ (l : List ℕ). all.written ++ l) (sym is)) (closed_tells (all.written ++ old) commits closed all.lines);
 }
@@ -191,6 +207,14 @@ told_behind before mid m gathered commits all t = record {
       all.lines.told);
 }
 
+-- a whole line was written by then
+line_behind : (before : List ℕ) (mid m : Moment) (gathered : List ℕ) (commits : ℕ) → IsGathered before mid.out gathered commits → IsHandedOver mid gathered m → HasNoLine before m.out → ⊥
+line_behind before mid m gathered commits all t none =
+    let both : before ++ (all.written ++ t.piece) ≡ before ++ none.written = sym (append_assoc before all.written t.piece) ∙ ap (λ (l : List ℕ). l ++ t.piece) (sym all.is) ∙ sym t.out ∙ none.is in
+    let same : all.written ++ t.piece ≡ none.written = append_cancel_left before (all.written ++ t.piece) none.written both in
+    let e : true ≡ false = sym (ap (lacks 10) same ∙ none.none) ∙ has_line_more all.written t.piece all.begun in
+    cc
+
 module _ (files : Five (List ℕ)) (h : History) (gated : Gated) (is : IsLog h files gated) (first : gated.epoch ≡ 1) (least : ℕ) (before : List ℕ) (commits : ℕ) (enough : least ≤ length (texts_in files)) (counted : commits ≡ length (texts_in files)) where
   -- while output is handed over
   pub held_telling : (gathered : List ℕ) (rest : List (List ℕ)) (m : Moment) → IsGathered before h.now.out gathered commits → IsHandedOver h.now gathered m → IsHeld least (texts_in files ++ rest) before m
@@ -201,6 +225,7 @@ module _ (files : Five (List ℕ)) (h : History) (gated : Gated) (is : IsLog h f
     rest = rest;
     prefix = refl;
     told = subst (AcknowledgesBehind before m.out) counted (told_behind before h.now m gathered commits all t);
+    begun = λ none. absurd (line_behind before h.now m gathered commits all t none);
   }
 
   -- while a text is logged, and while what was gathered is handed over behind that
@@ -208,9 +233,10 @@ module _ (files : Five (List ℕ)) (h : History) (gated : Gated) (is : IsLog h f
   held_logged gathered texts rest mid m all l t left leaves =
       let disk_is : disk_of m Log ≡ l.file.disk = ap (λ (d : Five Pending). of d Log) t.disks ∙ ap (λ (x : Moment). disk_of x Log) l.file.is in
       let out : mid.out ≡ h.now.out = ap (λ (x : Moment). x.out) l.file.is in
-      let told = subst (AcknowledgesBehind before m.out) counted (told_behind before mid m gathered commits (subst (λ (o : List ℕ). IsGathered before o gathered commits) (sym out) all) t) in
+      let now : IsGathered before mid.out gathered commits = subst (λ (o : List ℕ). IsGathered before o gathered commits) (sym out) all in
+      let told = subst (AcknowledgesBehind before m.out) counted (told_behind before mid m gathered commits now t) in
       elim (l.file.each left (subst (λ (p : Pending). Leaves p left) disk_is leaves)) [
-        | inl same ↦ record { texts = texts_in files; is = same; enough = enough; rest = texts ++ rest; prefix = refl; told = told }
+        | inl same ↦ record { texts = texts_in files; is = same; enough = enough; rest = texts ++ rest; prefix = refl; told = told; begun = λ none. absurd (line_behind before mid m gathered commits now t none) }
         | inr one ↦ record {
           texts = texts_in files ++ l.text ∷ [];
           is = one;
@@ -218,6 +244,7 @@ module _ (files : Five (List ℕ)) (h : History) (gated : Gated) (is : IsLog h f
           rest = rest;
           prefix = append_assoc (texts_in files) (l.text ∷ []) rest ∙ ap (λ (ts : List (List ℕ)). texts_in files ++ (ts ++ rest)) (sym l.one);
           told = record { written = told.written; is = told.is; told = more told.written _ _ told.told (omega (arith, length-append (texts_in files) (l.text ∷ []))) };
+          begun = λ none. absurd (line_behind before mid m gathered commits now t none);
         }
       ]
 
@@ -236,13 +263,22 @@ module _ (files : Five (List ℕ)) (h : History) (gated : Gated) (is : IsLog h f
       held_telling gathered (texts ++ rest) m all (record { disks = t.disks ∙ told.1.disks; piece = t.piece; rest = t.rest; out = t.out ∙ ap (λ (l : List ℕ). l ++ t.piece) out; whole = t.whole })
   held_failed gathered lines texts rest mid m all out (inr (inr logging)) t = held_logged gathered texts rest mid m all logging t
 
--- when the log is open, and nothing is gathered yet
-pub held_opened : (files : Five (List ℕ)) (h : History) (gated : Gated) → IsLog h files gated → gated.epoch ≡ 1 → (before : List ℕ) (rest : List (List ℕ)) → h.now.out ≡ before
-    → IsHeld (length (texts_in files)) (texts_in files ++ rest) before h.now
-held_opened files h gated is first before rest out =
-    held_telling files h gated is first (length (texts_in files)) before (length (texts_in files)) (omega arith) refl [] rest h.now
-    (record { written = []; is = out ∙ sym (append-nil before); lines = record { told = tells_nothing _; ends = inl refl } })
-    (handed_nothing h.now [])
+-- while the first line is handed over
+pub held_first : (files : Five (List ℕ)) (h : History) (gated : Gated) → IsLog h files gated → gated.epoch ≡ 1 → (before : List ℕ) (opened : ℕ) (rest : List (List ℕ)) (m : Moment) → h.now.out ≡ before → IsHandedOver h.now (printed_line (OpenedAt opened)) m
+    → IsHeld (length (texts_in files)) (texts_in files ++ rest) before m
+held_first files h gated is first before opened rest m out t left leaves = record {
+  texts = texts_in files;
+  is = kept_left files h gated left is first (subst (λ (d : Five Pending). Leaves (of d Log) left) t.disks leaves);
+  enough = omega arith;
+  rest = rest;
+  prefix = refl;
+  told = record {
+    written = t.piece;
+    is = t.out ∙ ap (λ (l : List ℕ). l ++ t.piece) out;
+    told = fewer t.piece t.rest (length (texts_in files)) (subst (λ (l : List ℕ). AcknowledgesAtMost l (length (texts_in files))) (sym t.whole) (opened_tells [] (length (texts_in files)) opened (nothing_tells (length (texts_in files)))).told);
+  };
+  begun = λ none. refl;
+}
 
 -- files and output, and output behind that
 pub work_output : {H : Type 0} {s : source.Ghosts H} {g : host.Ghosts H} {a b c : H} → UsesWork s g a b → UsesOutput s g b c → UsesWork s g a c
@@ -286,3 +322,16 @@ stands_more {H} {s} {g} old new text n a b is uses log stands = record {
   room = omega (arith, stands.room, ap (λ (x : Gated). x.end) is, length-spelled text []);
   log = λ t. log (record { tells = t.tells; honest = subst IsHonest uses.standing t.honest });
 }
+
+-- no file was changed
+pub only_log : (old new : Five (List ℕ)) → new ≡ old → OnlyLog old new
+only_log old new same = subst (λ (f : Five (List ℕ)). OnlyLog old f) (sym same) refl
+
+-- a line that was handed over stands in front of what is left
+pub handed_first : (now old gathered line rest : List ℕ) → gathered ≡ [] → now ≡ old ++ line → now ++ (gathered ++ rest) ≡ old ++ (line ++ rest)
+handed_first now old gathered line rest none is = ap (λ (l : List ℕ). now ++ (l ++ rest)) none ∙ ap (λ (l : List ℕ). l ++ rest) is ∙ append_assoc old line rest
+
+-- when the log is open, and nothing is told yet
+pub held_opened : (files : Five (List ℕ)) (h : History) (gated : Gated) → IsLog h files gated → gated.epoch ≡ 1 → (before : List ℕ) (rest : List (List ℕ)) → h.now.out ≡ before
+    → IsHeld (length (texts_in files)) (texts_in files ++ rest) before h.now
+held_opened files h gated is first before rest out = held_first files h gated is first before 0 rest h.now out (handed_nothing h.now (printed_line (OpenedAt 0)))

@@ -1,5 +1,6 @@
--- That a log with a prefix of a run's texts gives what some turns of the run made.
-use Rattle.std.proofs.Common.{◌≡◌, ◌⊎◌, ℕ, suc, Bool, true, false, cond, List, [], ◌∷◌, ◌++◌, length, Option, Some, None, Ok, inl, inr, refl, sym, ap, subst, ◌∙◌, arith, append-nil}
+-- That a log with a prefix of a run's texts has the run's first commits.
+use Rattle.std.proofs.Common.{◌≡◌, ◌⊎◌, ℕ, suc, Bool, true, false, cond, List, [], ◌∷◌, ◌++◌, length, take, Option, Some, None, Ok, inl, inr, refl, sym, ap, subst, ◌∙◌, arith, append-nil, length-append}
+use Rattle.std.proofs.Math.Seq.{take-append_seam}
 use Rattle.hs_entries.specs.declared.item.Item.{Item}
 use Rattle.hs_entries.specs.declared.item.Item.TheVariants.{Entry, Bad, TooLong, End}
 use Rattle.hs_entries.specs.Items.{items}
@@ -7,24 +8,23 @@ use Rattle.hs_gate.specs.Groups.{Groups, groups_of, is_born}
 use Rattle.hs_log.specs.Log.{IsLogOf}
 use Rattle.hs_host.specs.declared.file_kind.FileKind.TheVariants.{Log}
 use Rattle.hs_host.specs.Disk.{Pending, Leaves, settled}
+use Rattle.hs_host.specs.Files.{Five}
 use Rattle.hs_host.specs.Moments.{Moment, History, Since, disk_of}
-use Rattle.hs_host.proofs.Passing.{since_none, since_now}
+use Rattle.hs_host.proofs.Passing.{since_now}
 use Rattle.hs_machine.specs.declared.reply.Reply.{Reply}
 use Rattle.hs_machine.specs.Machine.{after, whole}
 use Rattle.hs_machine.specs.Replies.{is_commit}
-use Rattle.hs_top.specs.declared.status.Status.{Status}
+use Rattle.hs_machine.proofs.Acknowledged.{tells_nothing}
 use Rattle.hs_top.specs.declared.statement.Statement.{Statement}
-use Rattle.hs_top.specs.Crash.{Survives, IsSafe, IsSafeFromOpening, HasLog, GivesSame, IsOpening, AcknowledgesBehind, opened_after}
+use Rattle.hs_top.specs.Crash.{Survives, IsSafe, IsKept, IsFound, GivesSame, AcknowledgesBehind}
 use Rattle.hs_top.specs.Database.{performed}
 use Rattle.hs_top.specs.Holding.{Holds, IsHeld}
 use Rattle.hs_top.specs.CommitText.{commit_text}
-use Rattle.hs_top.specs.Machine.{State, machine, step_of, entered, logged, turn, texts, texts_of}
-use Rattle.hs_top.specs.Opening.{Opened, nothing_logged, replayed, opened_of, texts_at, texts_from, begun_with}
-use Rattle.hs_top.specs.Running.{has_opened}
+use Rattle.hs_top.specs.Machine.{State, machine, step_of, entered, logged, turn, steps, texts, texts_of}
+use Rattle.hs_top.specs.Opening.{Opened, nothing_logged, replayed, opened_of, opened_at, texts_at, texts_from, begun_with}
 use Rattle.hs_top.specs.Sessions.{Admitted, admitted}
 use Rattle.hs_top.specs.Statement.{statement_of}
 use Rattle.hs_top.proofs.Prefixes.{split_front}
-use Rattle.hs_machine.proofs.Acknowledged.{tells_nothing}
 use Rattle.hs_top.proofs.Reopened.{replayed_on, old_gives, last_session, after_turns_remade, commits_of_texts}
 
 -- a step logs one text or none
@@ -88,86 +88,84 @@ log_gives log texts opened is replays =
     let whole : (groups_of log).is_broken ≡ false = ap (λ (g : Groups). g.is_broken) is.groups.groups in
     grind (arith, is.born, is.groups.opened, is.groups.epoch_is, whole, replays)
 
--- such a log gives what the first turns made
+-- such a log survives: it has the first so many commits of the run
 pub survives : (old : List ℕ) (opened : Opened) (input before out log : List ℕ) → opened_of old ≡ Ok opened
     → Holds (length (texts_at old)) (texts_at old ++ texts_from opened input) before out log → Survives old opened input before out log
 survives old opened input before out log is held =
     let payloads = (groups_of log).payloads in
+    let all = texts_from opened input in
     let same : payloads ≡ held.texts = ap (λ (g : Groups). g.payloads) held.is.groups.groups in
     let given = old_gives old opened is in
     let session = last_session (texts_at old) nothing_logged opened tt given in
-    let parts = split_front held.texts held.rest (texts_at old) (texts_from opened input) held.prefix held.enough in
-    let made = front_of_texts (items 1 input) (begun_with opened) parts.0 held.rest parts.1.1 in
-    let after = after_turns_remade made.0 (items 1 input) (begun_with opened) (record { few = omega arith; last = session }) in
-    let replays : replayed nothing_logged payloads ≡ Ok (opened_after made.0 opened input) =
-    ap (λ (ts : List (List ℕ)). replayed nothing_logged ts) (same ∙ parts.1.0 ∙ ap (λ (ts : List (List ℕ)). texts_at old ++ ts) made.1)
-    ∙ replayed_on (texts_at old) _ nothing_logged opened given ∙ after in
+    let parts = split_front held.texts held.rest (texts_at old) all held.prefix held.enough in
+    let count : ℕ = length parts.0 in
+    let front : take count all ≡ parts.0 = ap (λ (ts : List (List ℕ)). take count ts) (sym parts.1.1) ∙ take-append_seam parts.0 held.rest in
+    let turned = front_of_texts (items 1 input) (begun_with opened) parts.0 held.rest parts.1.1 in
+    let state : Opened = opened_at (steps turned.0 (machine (items 1 input) (begun_with opened))).state in
+    let after : replayed opened parts.0 ≡ Ok state = ap (λ (ts : List (List ℕ)). replayed opened ts) turned.1 ∙ after_turns_remade turned.0 (items 1 input) (begun_with opened) (record { few = omega arith; last = session }) in
+    let replays : replayed nothing_logged payloads ≡ Ok state =
+    ap (λ (ts : List (List ℕ)). replayed nothing_logged ts) (same ∙ parts.1.0) ∙ replayed_on (texts_at old) parts.0 nothing_logged opened given ∙ after in
     record {
-      turns = made.0;
-      reopens = log_gives log held.texts (opened_after made.0 opened input) held.is replays;
-      texts = born_texts log held.is.born ∙ same ∙ parts.1.0 ∙ ap (λ (ts : List (List ℕ)). texts_at old ++ ts) made.1;
-      told = subst (AcknowledgesBehind before out) (let count : length held.texts ≡ (opened_after made.0 opened input).database.commits = omega (arith, ap length same, commits_of_texts payloads nothing_logged (opened_after made.0 opened input) replays) in count) held.told;
+      by = record {
+        count = count;
+        enough = omega arith;
+        within = omega (arith, ap length parts.1.1, length-append parts.0 held.rest);
+        is = ap (λ (l : List (List ℕ)). record { epoch = 1; logged = l }) (born_texts log held.is.born ∙ same ∙ parts.1.0 ∙ ap (λ (ts : List (List ℕ)). texts_at old ++ ts) (sym front));
+      };
+      state = state;
+      made = ap (λ (ts : List (List ℕ)). replayed opened ts) front ∙ after;
+      reopens = log_gives log held.texts state held.is replays;
+      told = subst (AcknowledgesBehind before out) (let n : length held.texts ≡ state.database.commits = omega (arith, ap length same, commits_of_texts payloads nothing_logged state replays) in n) held.told;
+      begun = λ none. omega (arith, held.begun none, ap length parts.1.0, length-append (texts_at old) parts.0);
     }
 
 pub safe : (old : List ℕ) (opened : Opened) (input before : List ℕ) (m : Moment) → opened_of old ≡ Ok opened
     → IsHeld (length (texts_at old)) (texts_at old ++ texts_from opened input) before m → IsSafe old opened input before m
 safe old opened input before m is held log left = survives old opened input before m.out log is (held log left)
 
--- a log whose texts are those of the old one gives what it gives
-pub held_same : (old : List ℕ) (opened : Opened) (before out log : List ℕ) → opened_of old ≡ Ok opened → Holds (length (texts_at old)) (texts_at old ++ []) before out log → GivesSame old log
-held_same old opened before out log is held =
-    let payloads = (groups_of log).payloads in
-    let parts = split_front held.texts held.rest (texts_at old) [] held.prefix held.enough in
-    let same : payloads ≡ texts_at old = ap (λ (g : Groups). g.payloads) held.is.groups.groups ∙ parts.1.0 ∙ ap (λ (ts : List (List ℕ)). texts_at old ++ ts) (nothing_before parts.0 held.rest parts.1.1) ∙ append-nil (texts_at old) in
-    let replays : replayed nothing_logged payloads ≡ Ok opened = ap (λ (ts : List (List ℕ)). replayed nothing_logged ts) same ∙ old_gives old opened is in
-    (log_gives log held.texts opened held.is replays ∙ sym is, born_texts log held.is.born ∙ same)
-
 -- a log that gives what the old one gives, while nothing is told
 pub same_survives : (old : List ℕ) (opened : Opened) (input before out log : List ℕ) → opened_of old ≡ Ok opened → out ≡ before → GivesSame old log → Survives old opened input before out log
-unfolding after
 same_survives old opened input before out log is told same = record {
-  turns = 0;
+  by = record { count = 0; enough = omega arith; within = omega arith; is = ap (λ (l : List (List ℕ)). record { epoch = 1; logged = l }) (same.1 ∙ sym (append-nil (texts_at old))) };
+  state = opened;
+  made = refl;
   reopens = same.0 ∙ is;
-  texts = same.1 ∙ sym (append-nil (texts_at old));
   told = record { written = []; is = told ∙ sym (append-nil before); told = tells_nothing _ };
+  begun = λ none. refl;
 }
-
--- while a born log is opened
-opening_safe : (old : List ℕ) (opened : Opened) (input before : List ℕ) (m : Moment) → opened_of old ≡ Ok opened → is_born old ≡ true → IsOpening old before m → IsSafe old opened input before m
-opening_safe old opened input before m is born (out, inl unborn) log leaves = absurd (let e : true ≡ false = sym born ∙ unborn in cc)
-opening_safe old opened input before m is born (out, inr same) log leaves = same_survives old opened input before m.out log is out (same log leaves)
 
 -- the same bytes give the same
 pub same_gives : (old log : List ℕ) → log ≡ old → GivesSame old log
 same_gives old log same = (ap opened_of same, ap texts_at same)
 
--- and before that
-start_safe : (old : List ℕ) (opened : Opened) (input before : List ℕ) (m : Moment) → opened_of old ≡ Ok opened → disk_of m Log ≡ settled old → m.out ≡ before → IsSafe old opened input before m
+-- before anything is done all is safe
+pub start_safe : (old : List ℕ) (opened : Opened) (input before : List ℕ) (m : Moment) → opened_of old ≡ Ok opened → disk_of m Log ≡ settled old → m.out ≡ before → IsSafe old opened input before m
 start_safe old opened input before m is quiet out log leaves =
     same_survives old opened input before m.out log is out (same_gives old log (subst (λ (p : Pending). Leaves p log) quiet leaves))
 
--- no moment passed
-pub not_opened : (old : List ℕ) (opened : Opened) (input before : List ℕ) (status : Status) (h : History) → has_opened status ≡ false → IsSafeFromOpening old opened input before status h h
-not_opened old opened input before status h ended = record { opening = h; begins = since_none _ h; first = inl (ended, refl); each = since_none _ h }
+-- and while the log is opened, or it is being born
+pub found_kept : (files : Five (List ℕ)) (opened : Opened) (input before : List ℕ) (start m : Moment) → opened_of files.log ≡ Ok opened → start.out ≡ before → IsFound files start m → IsKept files opened input before start m
+found_kept files opened input before start m is out found = elim found.left [
+  | inl birth ↦ inl birth
+  | inr gives ↦ inr (λ log leaves. same_survives files.log opened input before m.out log is (found.out ∙ out) (gives log leaves))
+]
 
--- what is safe when it is open, and at each moment after, is so now
+-- a log that was born is not being made
+pub born_kept : (files : Five (List ℕ)) (opened : Opened) (input before : List ℕ) (start m : Moment) → is_born files.log ≡ true → IsKept files opened input before start m → IsSafe files.log opened input before m
+born_kept files opened input before start m born (inl birth) = absurd (let e : true ≡ false = sym born ∙ birth.unborn in cc)
+born_kept files opened input before start m born (inr safe) = safe
+
+-- what is safe at a moment, and at each moment after, is so now
 pub safe_now : {old : List ℕ} {opened : Opened} {input before : List ℕ} {a b : History} → IsSafe old opened input before a.now → Since (IsSafe old opened input before) a b → IsSafe old opened input before b.now
 safe_now {old} {opened} {input} {before} first each = elim (since_now each) [ inl is ↦ subst (IsSafe old opened input before) (sym is) first | inr safe ↦ safe ]
 
 -- over a born log the present moment is safe in any case
-pub born_safe : (old : List ℕ) (opened : Opened) (input before : List ℕ) (status : Status) (start now : History) → opened_of old ≡ Ok opened → is_born old ≡ true → disk_of start.now Log ≡ settled old → start.now.out ≡ before
-    → IsSafeFromOpening old opened input before status start now → IsSafe old opened input before now.now
-born_safe old opened input before status start now is born quiet out s =
-    safe_now (elim (since_now s.begins) [
-      | inl same ↦ subst (IsSafe old opened input before) (sym same) (start_safe old opened input before start.now is quiet out)
-      | inr opening ↦ opening_safe old opened input before s.opening.now is born opening
-    ]) s.each
-
--- so it is at each status that comes after the opening
-pub kept_safe : (old : List ℕ) (opened : Opened) (input before : List ℕ) (start now : History) (status : Status) → opened_of old ≡ Ok opened → disk_of start.now Log ≡ settled old → start.now.out ≡ before
-    → IsSafeFromOpening old opened input before status start now → (has_opened status ≡ true → IsSafe old opened input before now.now) → HasLog old status → IsSafe old opened input before now.now
-kept_safe old opened input before start now status is quiet out s later (inl has) = later has
-kept_safe old opened input before start now status is quiet out s later (inr born) = born_safe old opened input before status start now is born quiet out s
+pub born_safe : (files : Five (List ℕ)) (opened : Opened) (input before : List ℕ) (start now : History) → opened_of files.log ≡ Ok opened → is_born files.log ≡ true → disk_of start.now Log ≡ settled files.log → start.now.out ≡ before
+    → Since (IsKept files opened input before start.now) start now → IsSafe files.log opened input before now.now
+born_safe files opened input before start now is born quiet out each = elim (since_now each) [
+  | inl same ↦ subst (IsSafe files.log opened input before) (sym same) (start_safe files.log opened input before start.now is quiet out)
+  | inr kept ↦ born_kept files opened input before start.now now.now born kept
+]
 
 -- and the log as a read gives it is among what a crash may leave
 pub left_now : (old : List ℕ) (opened : Opened) (input before : List ℕ) (m : Moment) (written log : List ℕ) → IsSafe old opened input before m → m.out ≡ written → Leaves (disk_of m Log) log → Survives old opened input before written log

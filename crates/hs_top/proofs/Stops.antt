@@ -1,12 +1,16 @@
 -- What stops a part stops the whole.
-use Rattle.std.proofs.Common.{◌≤◌, ℕ, Result, Ok, Err, arith}
+use Rattle.std.proofs.Common.{◌≡◌, ◌≤◌, ℕ, Result, Ok, Err, refl, sym, ◌∙◌, arith}
 use Rattle.std.specs.Prelude.{IfErr, OnOk}
 use Rattle.hs_host.specs.declared.source.Source as source
 use Rattle.hs_host.specs.declared.host.Host as host
 use Rattle.hs_host.specs.Host.{Rose}
 use Rattle.hs_top.specs.declared.stop.Stop.{Stop}
 use Rattle.hs_top.specs.declared.stop.Stop.TheVariants.{Input, Output, Disk, NoMemory, Damaged, TooLong}
-use Rattle.hs_top.specs.Stop.{OutputStops, DiskStops, WorkStops, ReadStops, RunStops}
+use Rattle.hs_top.specs.declared.status.Status.{Status}
+use Rattle.hs_top.specs.declared.status.Status.TheVariants.{DiskFault, NoMemory as NoMemoryStatus}
+use Rattle.hs_top.specs.Opening.{Opened}
+use Rattle.hs_top.specs.Status.{status_of}
+use Rattle.hs_top.specs.Stop.{OpenStops, OutputStops, DiskStops, WorkStops, ReadStops, RunStops}
 
 pub stops_for : {T : Type 0} (P Q : Stop → Type 0) (r : Result T Stop) → ((stop : Stop) → P stop → Q stop) → IfErr r P → IfErr r Q
 stops_for P Q (Ok x) f e = tt
@@ -79,3 +83,13 @@ module _ {H : Type 0} (s : source.Ghosts H) (g : host.Ghosts H) where
   read_run TooLong a c rose = tt
   read_run Disk a c rose = absurd rose
   read_run (Damaged group) a c rose = absurd rose
+
+  -- opening a log that gives something stops where the disk failed or memory was wanted
+  pub open_stops : (stop : Stop) (status : Status) (a b : H) (right : Result Opened ℕ) (opened : Opened) → right ≡ Ok opened → status ≡ status_of stop → OpenStops s g a b stop
+      → ((number : ℕ) → stop ≡ Damaged number → right ≡ Err number) → (status ≡ DiskFault → ⊥) → (status ≡ NoMemoryStatus → ⊥) → ⊥
+  open_stops Disk status a b right opened ok is stops damaged disk memory = disk is
+  open_stops NoMemory status a b right opened ok is stops damaged disk memory = memory is
+  open_stops (Damaged number) status a b right opened ok is stops damaged disk memory = let e : Ok opened ≡ Err number = sym ok ∙ damaged number refl in cc
+  open_stops Input status a b right opened ok is stops damaged disk memory = stops
+  open_stops Output status a b right opened ok is stops damaged disk memory = stops
+  open_stops TooLong status a b right opened ok is stops damaged disk memory = stops

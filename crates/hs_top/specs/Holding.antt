@@ -1,11 +1,12 @@
 -- What holds of the log and of the output at each moment of a program at work.
-use Rattle.std.specs.Prelude.{◌≡◌, ◌⊎◌, ℕ, ◌≤◌, List, [], ◌∷◌, ◌++◌, length}
+use Rattle.std.specs.Prelude.{◌≡◌, ◌⊎◌, ℕ, ◌≤◌, false, List, [], ◌∷◌, ◌++◌, length}
 use Rattle.hs_host.specs.Disk.{Leaves}
 use Rattle.hs_host.specs.Files.{Five}
 use Rattle.hs_host.specs.Moments.{Moment, OneFile, disk_of}
 use Rattle.hs_host.specs.declared.file_kind.FileKind.TheVariants.{Log}
 use Rattle.hs_log.specs.Log.{IsLogOf, HasNoneOrAll}
-use Rattle.hs_top.specs.Crash.{AcknowledgesBehind}
+use Rattle.hs_entries.specs.Parts.{lacks}
+use Rattle.hs_top.specs.Crash.{AcknowledgesBehind, HasNoLine}
 use Rattle.hs_top.specs.Running.{texts_in}
 use Rattle.hs_machine.specs.Acknowledged.{AcknowledgesLines}
 
@@ -17,15 +18,18 @@ pub record Holds (least : ℕ) (all : List (List ℕ)) (before out log : List �
   pub rest : List (List ℕ)
   pub prefix : texts ++ rest ≡ all
   pub told : AcknowledgesBehind before out (length texts)
+  pub begun : HasNoLine before out → length texts ≡ least
 
 -- so it is whatever a crash at this moment leaves of the log
 abbrev pub IsHeld : ℕ → List (List ℕ) → List ℕ → Moment → Type 0
 IsHeld least all before m = (log : List ℕ) → Leaves (disk_of m Log) log → Holds least all before m.out log
 
--- what was written behind an output, with what is gathered, is whole lines that tell of no later commit than this one
+-- What was written behind an output has a whole line, and with what is gathered it is whole lines that tell of no later
+-- commit than this one.
 pub record IsGathered (before out gathered : List ℕ) (commits : ℕ) : Type 0 where
   pub written : List ℕ
   pub is : out ≡ before ++ written
+  pub begun : lacks 10 written ≡ false
   pub lines : AcknowledgesLines (written ++ gathered) commits
 
 -- After a prefix of these bytes was handed over, nothing of what the disk has is other.

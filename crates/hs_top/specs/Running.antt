@@ -100,14 +100,3 @@ is_damaged OutputFault = false
 is_damaged DiskFault = false
 is_damaged NoMemory = false
 is_damaged InputTooLong = false
-
--- the run went on after it had opened the log, and no call on the files was at fault
-abbrev pub has_opened : Status → Bool
-has_opened Done = true
-has_opened InputFault = true
-has_opened OutputFault = true
-has_opened InputTooLong = true
-has_opened Usage = false
-has_opened DiskFault = false
-has_opened NoMemory = false
-has_opened (Damaged damage) = false

@@ -8,7 +8,7 @@ ghost use Rattle.hs_top.specs.declared.statement.Statement.{Statement};
 ghost use Rattle.hs_top.specs.Acknowledged.{IsNamed};
 ghost use Rattle.hs_top.specs.Answers.{answer_lines};
 ghost use Rattle.hs_top.specs.CommitText.{IsChange};
-ghost use Rattle.hs_top.specs.Crash.{IsLogAlone};
+ghost use Rattle.hs_top.specs.Crash.{IsLater};
 ghost use Rattle.hs_top.specs.Database.{performed, executed};
 ghost use Rattle.hs_top.specs.Holding.{IsHandedOver, IsHeld, IsLogging, IsStep, IsAcknowledging};
 ghost use Rattle.hs_top.specs.Machine.{WritesPrefix, step_of, logged, last_after, if_commit, commits_after};
@@ -46,7 +46,7 @@ pub fn answer<H: Host>(
     ensures done { H.tells → OnOk result (H.written host.new ++ output.new ≡ H.written host.old ++ (output.old ++ printed (step_of item (state_of work.old)).lines)) }
     ensures front { H.tells → WritesPrefix (H.written host.old) (H.written host.new) (output.old ++ printed (step_of item (state_of work.old)).lines) }
     ensures moments { Told H.Source H.Host.own host.old → IsNamed item → (least : ℕ) (before : List ℕ) (rest : List (List ℕ)) → IsAcknowledging least before (H.files host.old) (H.written host.old) output.old work.old.database.commits → Since (IsHeld least (texts_in (H.files host.old) ++ ((step_of item (state_of work.old)).texts ++ rest)) before) (H.history host.old) (H.history host.new) }
-    ensures alone { Told H.Source H.Host.own host.old → Since (IsLogAlone (H.history host.old).now) (H.history host.old) (H.history host.new) }
+    ensures alone { Told H.Source H.Host.own host.old → Since (IsLater (H.history host.old).now) (H.history host.old) (H.history host.new) }
     ensures telling { Told H.Source H.Host.own host.old → IsNamed item → (least : ℕ) (before : List ℕ) → IsAcknowledging least before (H.files host.old) (H.written host.old) output.old work.old.database.commits → OnOk result (IsAcknowledging least before (H.files host.new) (H.written host.new) output.new work.new.database.commits) }
     ensures uses { UsesWork H.Source H.Host.own host.old host.new }
     ensures stops { IfErr result (WorkStops H.Source H.Host.own host.old host.new) }

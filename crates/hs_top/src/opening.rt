@@ -8,7 +8,7 @@ ghost use Rattle.hs_gate.specs.Crash.{IsAny};
 ghost use Rattle.hs_gate.specs.Gated.{IsFront, IsPlace, TakesPart, IsUnbornOrCreated};
 ghost use Rattle.hs_gate.specs.Groups.{is_born};
 ghost use Rattle.hs_log.specs.Log.{HasRoom};
-ghost use Rattle.hs_top.specs.Crash.{IsOpening, IsLogAlone};
+ghost use Rattle.hs_top.specs.Crash.{IsFound, IsLater};
 ghost use Rattle.hs_top.specs.Opening.{nothing_logged, redone, replayed, opened_of, texts_at, opened_by};
 ghost use Rattle.hs_top.specs.Running.{Stands, texts_in};
 ghost use Rattle.hs_top.specs.Stop.{OpenStops, DiskStops};
@@ -40,8 +40,8 @@ pub fn open_log<H: Host>(alloc: Global, host: &mut H) -> Result<Opening, Stop>
     ensures kept { Told H.Source H.Host.own host.old → (number : ℕ) → opened_of (H.files host.old).log ≡ Err number → H.files host.new ≡ H.files host.old }
     ensures stands { IfOk result (λ o. Stands H.Source H.Host.own o.log o.database.commits host.new) }
     ensures texts { Told H.Source H.Host.own host.old → OnOk result (texts_in (H.files host.new) ≡ texts_at (H.files host.old).log) }
-    ensures moments { Told H.Source H.Host.own host.old → disk_of (H.history host.old).now FileKind.Log ≡ settled (H.files host.old).log → Since (IsOpening (H.files host.old).log (H.history host.old).now.out) (H.history host.old) (H.history host.new) }
-    ensures moves { Moves H.Source H.Host.own FileKind.Log (IsLogAlone (H.history host.old).now) host.old host.new }
+    ensures moments { Told H.Source H.Host.own host.old → disk_of (H.history host.old).now FileKind.Log ≡ settled (H.files host.old).log → Since (IsFound (H.files host.old) (H.history host.old).now) (H.history host.old) (H.history host.new) }
+    ensures moves { Moves H.Source H.Host.own FileKind.Log (IsLater (H.history host.old).now) host.old host.new }
     ensures stops { IfErr result (OpenStops H.Source H.Host.own host.old host.new) }
     ensures begun { Told H.Source H.Host.own host.old → is_born (H.files host.old).log ≡ false → OnErr result (IsUnbornOrCreated (H.files host.new).log) }
 {
@@ -79,8 +79,8 @@ fn read_log<H: Host>(alloc: Global, host: &mut H) -> Result<Opening, Stop>
     ensures kept { Told H.Source H.Host.own host.old → (number : ℕ) → opened_of (H.files host.old).log ≡ Err number → H.files host.new ≡ H.files host.old }
     ensures stands { IfOk result (λ o. Stands H.Source H.Host.own o.log o.database.commits host.new) }
     ensures texts { Told H.Source H.Host.own host.old → OnOk result (texts_in (H.files host.new) ≡ texts_at (H.files host.old).log) }
-    ensures moments { Told H.Source H.Host.own host.old → disk_of (H.history host.old).now FileKind.Log ≡ settled (H.files host.old).log → Since (IsOpening (H.files host.old).log (H.history host.old).now.out) (H.history host.old) (H.history host.new) }
-    ensures moves { Moves H.Source H.Host.own FileKind.Log (IsLogAlone (H.history host.old).now) host.old host.new }
+    ensures moments { Told H.Source H.Host.own host.old → disk_of (H.history host.old).now FileKind.Log ≡ settled (H.files host.old).log → Since (IsFound (H.files host.old) (H.history host.old).now) (H.history host.old) (H.history host.new) }
+    ensures moves { Moves H.Source H.Host.own FileKind.Log (IsLater (H.history host.old).now) host.old host.new }
     ensures stops { IfErr result (OpenStops H.Source H.Host.own host.old host.new) }
 {
     let Some(front) = Gated::front(alloc, host, FileKind::Log)? else {

@@ -7,12 +7,12 @@ ghost use Rattle.hs_host.specs.Files.{IsUnnamed, IsOpen, IsForeign, IsHonest};
 ghost use Rattle.hs_host.specs.Moments.{Since, disk_of};
 ghost use Rattle.hs_entries.specs.Items.{items};
 ghost use Rattle.hs_top.specs.Command.{database_of};
-ghost use Rattle.hs_top.specs.Crash.{IsSafe, IsSafeFromOpening, IsUnbornOrSurvives, IsLogAlone, HasLog, Survives};
+ghost use Rattle.hs_top.specs.Crash.{IsSafe, IsKept, IsLater, Survives};
 ghost use Rattle.hs_top.specs.Holding.{IsHeld};
 ghost use Rattle.hs_top.specs.Machine.{WritesPrefix, transcript, transcript_within, machine, texts_of};
-ghost use Rattle.hs_top.specs.Opening.{Opened, opened_of, opened_by, begun_with, texts_at, texts_from, ended_with, shown, IsWholeLog, IsDamageOf};
+ghost use Rattle.hs_top.specs.Opening.{Opened, nothing_logged, opened_of, opened_by, begun_with, texts_at, texts_from, ended_with, shown, IsWholeLog, IsDamageOf};
 ghost use Rattle.hs_host.specs.Used.{Told, UsesAll};
-ghost use Rattle.hs_top.specs.Running.{Stands, OnlyLog, texts_in, is_damaged, has_opened};
+ghost use Rattle.hs_top.specs.Running.{Stands, OnlyLog, texts_in, is_damaged};
 ghost use Rattle.hs_top.specs.Stop.{RunStops};
 
 use crate::command::database_of;
@@ -42,12 +42,13 @@ const MOST_INPUT: u64 = 1 << 30;
 /// transcript was written, the log's groups are the texts of all commits, and the next run begins with the database with which
 /// this one ended. Over a damaged log nothing is written and no file is changed, whatever the status is.
 ///
-/// Where the log was whole and all on the disk at the call, a crash at any moment of the run leaves a log with which the next
-/// run begins after some number of this one's turns, by the commits of these turns, and with all commits that were acknowledged by
-/// then. Only while a log is first made may it leave another. At a status that says that the log was open, the moment at which the run ends is such a moment
-/// too. A log that wasn't born still isn't where the run ended while it was made, or it is whole. On the disk no other
-/// file is touched.
-#[tactic(auto, using(crate::proofs::Prefixes::nothing_yet, crate::proofs::Safe::not_opened))]
+/// Where the log was whole and all on the disk at the call, a crash at any moment of the run leaves a log that has the commits
+/// that were found and the first so many of those that this run makes, and the next run begins with what these made. It has
+/// all commits that were acknowledged by then, and none of the run's own until the first line is written. Only while a log
+/// that wasn't born is being made may a crash leave another. The moment at which the run ends is a safe one too, but where
+/// the disk failed or memory was wanted over a log that wasn't born: then it still isn't born, or it is whole. On the disk no
+/// other file is touched.
+#[tactic(auto, using(crate::proofs::Prefixes::nothing_yet))]
 pub fn run<H: Host>(alloc: Global, words: &Words, host: &mut H) -> Status
     requires { IsUnnamed (H.standing host.old) }
 
@@ -70,11 +71,11 @@ pub fn run<H: Host>(alloc: Global, words: &Words, host: &mut H) -> Status
     ensures others { H.tells → IsHonest (H.standing host.old) → OnlyLog (H.files host.old) (H.files host.new) }
 
     // What a crash leaves, at each moment of the run.
-    ensures crash { H.tells → IsHonest (H.standing host.old) → disk_of (H.history host.old).now FileKind.Log ≡ settled (H.files host.old).log → (opened : Opened) → opened_of (H.files host.old).log ≡ Ok opened → IsSafeFromOpening (H.files host.old).log opened (H.unread host.old) (H.written host.old) result (H.history host.old) (H.history host.new) }
-    ensures safe { H.tells → IsHonest (H.standing host.old) → disk_of (H.history host.old).now FileKind.Log ≡ settled (H.files host.old).log → (opened : Opened) → opened_of (H.files host.old).log ≡ Ok opened → HasLog (H.files host.old).log result → IsSafe (H.files host.old).log opened (H.unread host.old) (H.written host.old) (H.history host.new).now }
-    ensures left { H.tells → IsHonest (H.standing host.old) → disk_of (H.history host.old).now FileKind.Log ≡ settled (H.files host.old).log → (opened : Opened) → opened_of (H.files host.old).log ≡ Ok opened → HasLog (H.files host.old).log result → Survives (H.files host.old).log opened (H.unread host.old) (H.written host.old) (H.written host.new) (H.files host.new).log }
-    ensures begun { H.tells → IsHonest (H.standing host.old) → is_born (H.files host.old).log ≡ false → IsUnbornOrSurvives (H.files host.old).log (H.unread host.old) (H.written host.old) (H.written host.new) (H.files host.new).log }
-    ensures alone { H.tells → IsHonest (H.standing host.old) → disk_of (H.history host.old).now FileKind.Log ≡ settled (H.files host.old).log → Since (IsLogAlone (H.history host.old).now) (H.history host.old) (H.history host.new) }
+    ensures crash { H.tells → IsHonest (H.standing host.old) → disk_of (H.history host.old).now FileKind.Log ≡ settled (H.files host.old).log → (opened : Opened) → opened_of (H.files host.old).log ≡ Ok opened → Since (IsKept (H.files host.old) opened (H.unread host.old) (H.written host.old) (H.history host.old).now) (H.history host.old) (H.history host.new) }
+    ensures safe { H.tells → IsHonest (H.standing host.old) → disk_of (H.history host.old).now FileKind.Log ≡ settled (H.files host.old).log → (opened : Opened) → opened_of (H.files host.old).log ≡ Ok opened → (is_born (H.files host.old).log ≡ true) ⊎ ((result ≡ Status.DiskFault → ⊥) × (result ≡ Status.NoMemory → ⊥)) → IsSafe (H.files host.old).log opened (H.unread host.old) (H.written host.old) (H.history host.new).now }
+    ensures left { H.tells → IsHonest (H.standing host.old) → disk_of (H.history host.old).now FileKind.Log ≡ settled (H.files host.old).log → (opened : Opened) → opened_of (H.files host.old).log ≡ Ok opened → (is_born (H.files host.old).log ≡ true) ⊎ ((result ≡ Status.DiskFault → ⊥) × (result ≡ Status.NoMemory → ⊥)) → Survives (H.files host.old).log opened (H.unread host.old) (H.written host.old) (H.written host.new) (H.files host.new).log }
+    ensures begun { H.tells → IsHonest (H.standing host.old) → is_born (H.files host.old).log ≡ false → (is_born (H.files host.new).log ≡ false) ⊎ Survives (H.files host.old).log nothing_logged (H.unread host.old) (H.written host.old) (H.written host.new) (H.files host.new).log }
+    ensures alone { H.tells → IsHonest (H.standing host.old) → disk_of (H.history host.old).now FileKind.Log ≡ settled (H.files host.old).log → Since (IsLater (H.history host.old).now) (H.history host.old) (H.history host.new) }
 
     // Faults of the devices.
     ensures input_fault { result ≡ Status.InputFault → Rose (H.input_faults host.old) (H.input_faults host.new) }
@@ -143,10 +144,10 @@ fn serve<H: Host>(alloc: Global, host: &mut H) -> Result<(), Status>
     ensures opened { H.tells → IsHonest (H.standing host.old) → (number : ℕ) → opened_of (H.files host.old).log ≡ Err number → OnOk result ⊥ }
     ensures done { H.tells → IsHonest (H.standing host.old) → (opened : Opened) → opened_of (H.files host.old).log ≡ Ok opened → OnOk result (H.written host.new ≡ H.written host.old ++ transcript (begun_with opened) (H.unread host.old)) }
     ensures log { H.tells → IsHonest (H.standing host.old) → (opened : Opened) → opened_of (H.files host.old).log ≡ Ok opened → OnOk result (IsWholeLog (H.files host.new).log (texts_at (H.files host.old).log ++ texts_from opened (H.unread host.old))) }
-    ensures crash { H.tells → IsHonest (H.standing host.old) → disk_of (H.history host.old).now FileKind.Log ≡ settled (H.files host.old).log → (opened : Opened) → opened_of (H.files host.old).log ≡ Ok opened → MatchResult result (λ _. IsSafeFromOpening (H.files host.old).log opened (H.unread host.old) (H.written host.old) Status.Done (H.history host.old) (H.history host.new)) (λ status. IsSafeFromOpening (H.files host.old).log opened (H.unread host.old) (H.written host.old) status (H.history host.old) (H.history host.new)) }
-    ensures begun { H.tells → IsHonest (H.standing host.old) → is_born (H.files host.old).log ≡ false → IsUnbornOrSurvives (H.files host.old).log (H.unread host.old) (H.written host.old) (H.written host.new) (H.files host.new).log }
-    ensures alone { H.tells → IsHonest (H.standing host.old) → disk_of (H.history host.old).now FileKind.Log ≡ settled (H.files host.old).log → Since (IsLogAlone (H.history host.old).now) (H.history host.old) (H.history host.new) }
-    ensures safe { H.tells → IsHonest (H.standing host.old) → disk_of (H.history host.old).now FileKind.Log ≡ settled (H.files host.old).log → (opened : Opened) → opened_of (H.files host.old).log ≡ Ok opened → MatchResult result (λ _. IsSafe (H.files host.old).log opened (H.unread host.old) (H.written host.old) (H.history host.new).now) (λ status. has_opened status ≡ true → IsSafe (H.files host.old).log opened (H.unread host.old) (H.written host.old) (H.history host.new).now) }
+    ensures crash { H.tells → IsHonest (H.standing host.old) → disk_of (H.history host.old).now FileKind.Log ≡ settled (H.files host.old).log → (opened : Opened) → opened_of (H.files host.old).log ≡ Ok opened → Since (IsKept (H.files host.old) opened (H.unread host.old) (H.written host.old) (H.history host.old).now) (H.history host.old) (H.history host.new) }
+    ensures begun { H.tells → IsHonest (H.standing host.old) → is_born (H.files host.old).log ≡ false → (is_born (H.files host.new).log ≡ false) ⊎ Survives (H.files host.old).log nothing_logged (H.unread host.old) (H.written host.old) (H.written host.new) (H.files host.new).log }
+    ensures alone { H.tells → IsHonest (H.standing host.old) → disk_of (H.history host.old).now FileKind.Log ≡ settled (H.files host.old).log → Since (IsLater (H.history host.old).now) (H.history host.old) (H.history host.new) }
+    ensures safe { H.tells → IsHonest (H.standing host.old) → disk_of (H.history host.old).now FileKind.Log ≡ settled (H.files host.old).log → (opened : Opened) → opened_of (H.files host.old).log ≡ Ok opened → MatchResult result (λ _. IsSafe (H.files host.old).log opened (H.unread host.old) (H.written host.old) (H.history host.new).now) (λ status. (is_born (H.files host.old).log ≡ true) ⊎ ((status ≡ Status.DiskFault → ⊥) × (status ≡ Status.NoMemory → ⊥)) → IsSafe (H.files host.old).log opened (H.unread host.old) (H.written host.old) (H.history host.new).now) }
     ensures before_too_long { H.tells → IsHonest (H.standing host.old) → (opened : Opened) → opened_of (H.files host.old).log ≡ Ok opened → IsErrOf result Status.InputTooLong → H.written host.new ≡ H.written host.old ++ transcript_within (2 ^ 30) (begun_with opened) (H.unread host.old) }
     ensures damaged { H.tells → IsHonest (H.standing host.old) → (damage : Damage) → IsErrOf result (Status.Damaged damage) → IsDamageOf (opened_of (H.files host.old).log) damage }
     ensures undamaged { H.tells → IsHonest (H.standing host.old) → (number : ℕ) → opened_of (H.files host.old).log ≡ Err number → IfErr result (λ status. (status ≡ Status.Damaged (Damage.Log number)) ⊎ ((status ≡ Status.DiskFault) ⊎ (status ≡ Status.NoMemory))) }
@@ -186,7 +187,7 @@ fn answer_all<H: Host>(alloc: Global, opening: Opening, host: &mut H) -> Result<
     ensures before_too_long { H.tells → IsErrOf result Stop.TooLong → (2 ^ 30 < length (H.unread host.old)) × (H.written host.new ≡ H.written host.old ++ transcript_within (2 ^ 30) (begun_with (opened_by opening)) (H.unread host.old)) }
     ensures log { Told H.Source H.Host.own host.old → OnOk result (IsWholeLog (H.files host.new).log (texts_in (H.files host.old) ++ texts_from (opened_by opening) (H.unread host.old))) }
     ensures moments { Told H.Source H.Host.own host.old → Since (IsHeld (length (texts_in (H.files host.old))) (texts_in (H.files host.old) ++ texts_from (opened_by opening) (H.unread host.old)) (H.written host.old)) (H.history host.old) (H.history host.new) }
-    ensures alone { Told H.Source H.Host.own host.old → Since (IsLogAlone (H.history host.old).now) (H.history host.old) (H.history host.new) }
+    ensures alone { Told H.Source H.Host.own host.old → Since (IsLater (H.history host.old).now) (H.history host.old) (H.history host.new) }
     ensures others { Told H.Source H.Host.own host.old → OnlyLog (H.files host.old) (H.files host.new) }
     ensures read { H.tells → OnOk result ((H.unread host.new ≡ []) × (length (H.unread host.old) ≤ 2 ^ 30)) }
     ensures uses { UsesAll H.Source H.Host.own host.old host.new }
@@ -194,6 +195,7 @@ fn answer_all<H: Host>(alloc: Global, opening: Opening, host: &mut H) -> Result<
 {
     let mut output = Output::new(alloc);
     output.push_opened(opening.database.commits)?;
+    flush(&mut output, host)?;
     let mut running = Running {
         alloc,
         reader: EntryReader::new(alloc, MOST_INPUT),

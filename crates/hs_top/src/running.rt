@@ -5,7 +5,7 @@ ghost use Rattle.hs_host.specs.Moments.{Since, IsReading};
 ghost use Rattle.hs_host.specs.Used.{Told, UsesInput, UsesOutput, UsesAll};
 ghost use Rattle.hs_entries.specs.Left.{TakesFirst, TakesWhole, RunsOut, IsBeyond, KeepsRoom};
 ghost use Rattle.hs_entries.specs.Reader.{AgreesWith, ahead, has_ended, kept, left, left_items, left_whole, room};
-ghost use Rattle.hs_top.specs.Crash.{IsLogAlone};
+ghost use Rattle.hs_top.specs.Crash.{IsLater};
 ghost use Rattle.hs_top.specs.Holding.{IsHandedOver, IsHeld, IsAcknowledging};
 ghost use Rattle.hs_top.specs.Machine.{WritesPrefix, rest_of, lines_of, texts_of};
 ghost use Rattle.hs_top.specs.Running.{is_end, UsesStreams};
@@ -42,7 +42,7 @@ impl Running {
         ensures too_long { H.tells → IsErrOf result Stop.TooLong → IsTooLong self.old (H.unread host.old) × (H.written host.new ≡ H.written host.old ++ (self.old.output ++ lines_of (machine_within self.old (H.unread host.old)))) }
         ensures front { H.tells → WritesPrefix (H.written host.old) (H.written host.new) (self.old.output ++ rest_of (machine_of self.old (H.unread host.old))) }
         ensures moments { Told H.Source H.Host.own host.old → (least : ℕ) (before : List ℕ) → IsAcknowledging least before (H.files host.old) (H.written host.old) self.old.output self.old.work.database.commits → Since (IsHeld least (texts_in (H.files host.old) ++ texts_of (machine_of self.old (H.unread host.old))) before) (H.history host.old) (H.history host.new) }
-        ensures alone { Told H.Source H.Host.own host.old → Since (IsLogAlone (H.history host.old).now) (H.history host.old) (H.history host.new) }
+        ensures alone { Told H.Source H.Host.own host.old → Since (IsLater (H.history host.old).now) (H.history host.old) (H.history host.new) }
         ensures telling { Told H.Source H.Host.own host.old → (least : ℕ) (before : List ℕ) → IsAcknowledging least before (H.files host.old) (H.written host.old) self.old.output self.old.work.database.commits → OnOk result (IsAcknowledging least before (H.files host.new) (H.written host.new) self.new.output self.new.work.database.commits) }
         ensures others { Told H.Source H.Host.own host.old → OnlyLog (H.files host.old) (H.files host.new) }
         ensures uses { UsesAll H.Source H.Host.own host.old host.new }

@@ -14,7 +14,7 @@ returns-then-branch-clause-moments g c = λ told quiet.
 
 pub returns-else-branch-clause-moments : goal.returns-else-branch-clause-moments
 returns-else-branch-clause-moments g c = λ told quiet.
-    unborn_opening (g.H.Host.files c.args.host.now).log (sym (c.in_ok-is_born.ensures.born told) ∙ c.if-branch.false) (c.is_born.ensures.reads.moments told) (c.new_log.ensures.changes.moments (told_on c.is_born.ensures.reads.uses told))
+    unborn_opening (g.H.Host.files c.args.host.now) (sym (c.in_ok-is_born.ensures.born told) ∙ c.if-branch.false) quiet (c.is_born.ensures.reads.moments told) (c.new_log.ensures.changes.moments (told_on c.is_born.ensures.reads.uses told))
 
 pub returns-in_err-is_born-clause-begun : goal.returns-in_err-is_born-clause-begun
 returns-in_err-is_born-clause-begun g c = λ told unborn. on_err _ (inl (ap (λ (f : Five (List ℕ)). is_born f.log) (c.is_born.ensures.reads.files told) ∙ unborn))

@@ -62,3 +62,18 @@ pub returns-clause-moves : goal.returns-clause-moves
 returns-clause-moves g c =
     let file = rw c.in-Some.is at c.in_ok-front.ensures.file in
     moves_alone_on (alone_reads (reads g (goal.at.returns-clause-moves g c).After-replay)) (alone_moves c.in-Some.front.gated.file file c.settle.ensures.changes)
+
+pub returns-in_err-front-clause-moves : goal.returns-in_err-front-clause-moves
+returns-in_err-front-clause-moves g c = alone_reads c.front.ensures.reads
+
+pub returns-in_default-clause-moments : goal.returns-in_default-clause-moments
+returns-in_default-clause-moments g c = λ told quiet. still_opening _ quiet (c.front.ensures.reads.moments told)
+
+pub returns-in_default-clause-moves : goal.returns-in_default-clause-moves
+returns-in_default-clause-moves g c = alone_reads c.front.ensures.reads
+
+pub returns-then-front-ne1-clause-moments : goal.returns-then-front-ne1-clause-moments
+returns-then-front-ne1-clause-moments g c = λ told quiet. still_opening _ quiet (c.front.ensures.reads.moments told)
+
+pub returns-then-front-ne1-clause-moves : goal.returns-then-front-ne1-clause-moves
+returns-then-front-ne1-clause-moves g c = alone_reads c.front.ensures.reads

@@ -1,28 +1,28 @@
-use Rattle.std.proofs.Common.{◌≡◌, ◌++◌, ◌^◌, List, [], ℕ, length, take, refl, sym, ap, subst, ◌∙◌, arith, append-nil}
+use Rattle.std.proofs.Common.{◌≡◌, ◌++◌, ◌^◌, List, [], ℕ, length, take, sym, ap, subst, ◌∙◌, arith, append-nil}
 use Rattle.hs_host.specs.Files.{Five, IsHonest, with_}
 use Rattle.hs_host.specs.declared.file_kind.FileKind.TheVariants.{Log}
 use Rattle.hs_host.specs.Moments.{Since}
 use Rattle.hs_host.specs.Used.{Told}
-use Rattle.hs_host.proofs.Passing.{since_none, since_weaker, since_join}
+use Rattle.hs_host.proofs.Passing.{since_weaker, since_join}
 use Rattle.hs_host.proofs.Used.{all_on, output_all}
 use Rattle.hs_entries.specs.declared.item.Item.{Item}
 use Rattle.hs_entries.specs.Items.{items, whole_items}
 use Rattle.hs_entries.specs.Reader.{left_items, left_whole}
 use Rattle.hs_machine.specs.Lines.{OpenedAt, printed_line}
-use Rattle.hs_top.specs.Crash.{IsLogAlone}
-use Rattle.hs_top.specs.Holding.{IsHeld, IsGathered}
+use Rattle.hs_top.specs.Crash.{IsLater}
+use Rattle.hs_top.specs.Holding.{IsHeld, IsGathered, IsHandedOver}
 use Rattle.hs_top.specs.Machine.{State, WritesPrefix, machine, transcript, rest_of, lines_of, texts_of}
 use Rattle.hs_top.specs.Opening.{opened_by, begun_with, texts_from, IsWholeLog}
 use Rattle.hs_top.specs.Running.{machine_of, state_of, texts_in, IsTooLong}
 use Rattle.hs_top.proofs.Alone.{alone_printing, alone_on}
-use Rattle.hs_top.proofs.Holding.{first_gathered, last_gathered, held_telling}
+use Rattle.hs_top.proofs.Holding.{first_gathered, last_gathered, held_first, held_telling, stands_handed, only_log, handed_first}
 use Rattle.hs_top.proofs.Logged.{whole_log}
 use Rattle.hs_top.proofs.Prefixes.{nothing_yet, front_after}
 use Rattle.hs_top.proofs.Runs.{rest_of-over, texts_of-over}
 use Rattle.hs_top.proofs.Taken.{fresh_items, fresh_whole, fresh_input, over_input, begun_not_ended, none_left}
-use Rattle.hs_top.proofs.Turns.{ended}
+use Rattle.hs_top.proofs.Turns.{ended, front_behind}
 use Rattle.hs_top.proofs.run_over.answer_all.Goals as goal
-use Rattle.hs_top.proofs.run_over.answer_all.Goals.{After-new-2, After-turn, After-flush}
+use Rattle.hs_top.proofs.run_over.answer_all.Goals.{After-new-2, After-turn, After-flush, After-flush-2}
 
 pub returns-in_err-push_opened-clause-front : goal.returns-in_err-push_opened-clause-front
 returns-in_err-push_opened-clause-front g c = λ told. nothing_yet _ _
@@ -31,14 +31,41 @@ returns-in_err-push_opened-clause-front g c = λ told. nothing_yet _ _
 first_line : (g : _) (c : After-new-2 g) → c.push_opened.new.self ≡ printed_line (OpenedAt c.args.opening.database.commits)
 first_line g c = c.in_ok-push_opened.ensures ∙ ap (λ (l : List ℕ). l ++ printed_line (OpenedAt c.args.opening.database.commits)) c.new-output.ensures
 
+-- the first line is handed over before anything else
+first_written : (g : _) (c : After-new-2 g) → g.H.Source.tells → g.H.Host.written c.flush.new.host ≡ g.H.Host.written c.args.host.now ++ printed_line (OpenedAt c.args.opening.database.commits)
+first_written g c told = c.in_ok-flush.ensures.done told ∙ ap (λ (l : List ℕ). g.H.Host.written c.args.host.now ++ l) (first_line g c)
+
 first_state : (g : _) (c : After-new-2 g) → state_of (record { sessions = c.new-2.result; database = c.args.opening.database; log = c.args.opening.log; text = [] }) ≡ begun_with (opened_by c.args.opening)
 first_state g c = ap (λ (names : List (List ℕ)). record { sessions = names; last = c.args.opening.log.last; database = c.args.opening.database }) c.new-2.ensures
 
-first_items : (g : _) (c : After-new-2 g) → left_items c.new.result (g.H.Source.unread c.args.host.now) ≡ items 1 (g.H.Source.unread c.args.host.now)
-first_items g c = fresh_items c.new.result _ c.new.ensures.ended c.new.ensures.ahead c.new.ensures.number
+first_items : (g : _) (c : After-new-2 g) → left_items c.new.result (g.H.Source.unread c.flush.new.host) ≡ items 1 (g.H.Source.unread c.args.host.now)
+first_items g c = fresh_items c.new.result _ c.new.ensures.ended c.new.ensures.ahead c.new.ensures.number ∙ ap (items 1) c.flush.ensures.uses.unread
 
-first_whole : (g : _) (c : After-new-2 g) → left_whole c.new.result (g.H.Source.unread c.args.host.now) ≡ whole_items 1 (take (2 ^ 30) (g.H.Source.unread c.args.host.now))
-first_whole g c = fresh_whole c.new.result _ (2 ^ 30) c.new.ensures.ended c.new.ensures.ahead c.new.ensures.number c.new.ensures.room
+first_whole : (g : _) (c : After-new-2 g) → left_whole c.new.result (g.H.Source.unread c.flush.new.host) ≡ whole_items 1 (take (2 ^ 30) (g.H.Source.unread c.args.host.now))
+first_whole g c = fresh_whole c.new.result _ (2 ^ 30) c.new.ensures.ended c.new.ensures.ahead c.new.ensures.number c.new.ensures.room ∙ ap (λ (u : List ℕ). whole_items 1 (take (2 ^ 30) u)) c.flush.ensures.uses.unread
+
+-- the moments while it is
+first_moments : (g : _) (c : After-flush g) → Told g.H.Source g.H.Host c.args.host.now
+    → Since (IsHeld (length (texts_in (g.H.Host.files c.args.host.now))) (texts_in (g.H.Host.files c.args.host.now) ++ texts_from (opened_by c.args.opening) (g.H.Source.unread c.args.host.now)) (g.H.Host.written c.args.host.now)) (g.H.Host.history c.args.host.now) (g.H.Host.history c.flush.new.host)
+first_moments g c told =
+    let line = c.in_ok-push_opened.ensures ∙ ap (λ (l : List ℕ). l ++ printed_line (OpenedAt c.args.opening.database.commits)) c.new-output.ensures in
+    since_weaker (c.flush.ensures.moments told.tells)
+    (λ m handing. held_first (g.H.Host.files c.args.host.now) (g.H.Host.history c.args.host.now) c.args.opening.log.gated (c.requires.stands.log told) c.requires.stands.epoch (g.H.Host.written c.args.host.now) c.args.opening.database.commits
+    (texts_from (opened_by c.args.opening) (g.H.Source.unread c.args.host.now)) m (g.met.H.Host.output_now c.args.host.now told.tells) (subst (λ (l : List ℕ). IsHandedOver (g.H.Host.history c.args.host.now).now l m) line handing))
+
+pub returns-in_err-flush-clause-moments : goal.returns-in_err-flush-clause-moments
+returns-in_err-flush-clause-moments g c = first_moments g (goal.at.returns-in_err-flush-clause-moments g c).After-flush
+
+pub returns-in_err-flush-clause-alone : goal.returns-in_err-flush-clause-alone
+returns-in_err-flush-clause-alone g c = λ told. alone_printing (c.flush.ensures.moments told.tells)
+
+pub returns-in_err-flush-clause-uses : goal.returns-in_err-flush-clause-uses
+returns-in_err-flush-clause-uses g c = output_all c.flush.ensures.uses
+
+pub returns-in_err-flush-clause-front : goal.returns-in_err-flush-clause-front
+returns-in_err-flush-clause-front g c = λ told.
+    let line = c.in_ok-push_opened.ensures ∙ ap (λ (l : List ℕ). l ++ printed_line (OpenedAt c.args.opening.database.commits)) c.new-output.ensures in
+    front_behind _ _ _ _ (subst (WritesPrefix (g.H.Host.written c.args.host.now) (g.H.Host.written c.flush.new.host)) line (c.flush.ensures.front told))
 
 pub loop-running-init : goal.loop-running-init
 loop-running-init g c =
@@ -47,40 +74,47 @@ loop-running-init g c =
     let unread = g.H.Source.unread c.args.host.now in
     let work = state_of (record { sessions = c.new-2.result; database = c.args.opening.database; log = c.args.opening.log; text = [] }) in
     let texts = texts_in (g.H.Host.files c.args.host.now) in
+    let line = printed_line (OpenedAt c.args.opening.database.commits) in
     record {
-      sane = record { reader = c.new.ensures.kept; agrees = λ told ended. absurd (begun_not_ended c.new.result c.new.ensures.ended ended); stands = c.requires.stands };
+      sane = record {
+        reader = c.new.ensures.kept;
+        agrees = λ told ended. absurd (begun_not_ended c.new.result c.new.ensures.ended ended);
+        stands = stands_handed c.args.opening.log c.args.opening.database.commits c.args.host.now c.flush.new.host c.flush.ensures.uses.standing c.flush.ensures.uses.files c.flush.ensures.moments c.requires.stands;
+      };
       so_far = λ told.
-          ap (λ (o : List ℕ). written ++ (o ++ rest_of (machine (left_items c.new.result unread) work))) (first_line g at)
-          ∙ ap (λ (is : List Item). written ++ (printed_line (OpenedAt c.args.opening.database.commits) ++ rest_of (machine is work))) (first_items g at)
-          ∙ ap (λ (s : State). written ++ (printed_line (OpenedAt c.args.opening.database.commits) ++ rest_of (machine (items 1 unread) s))) (first_state g at);
+          handed_first (g.H.Host.written c.flush.new.host) written c.flush.new.output line _ c.in_ok-flush.ensures.empty (first_written g at told)
+          ∙ ap (λ (is : List Item). written ++ (line ++ rest_of (machine is work))) (first_items g at)
+          ∙ ap (λ (s : State). written ++ (line ++ rest_of (machine (items 1 unread) s))) (first_state g at);
       within = λ told more.
-          ap (λ (o : List ℕ). written ++ (o ++ lines_of (machine (left_whole c.new.result unread) work))) (first_line g at)
-          ∙ ap (λ (is : List Item). written ++ (printed_line (OpenedAt c.args.opening.database.commits) ++ lines_of (machine is work))) (first_whole g at)
-          ∙ ap (λ (s : State). written ++ (printed_line (OpenedAt c.args.opening.database.commits) ++ lines_of (machine (whole_items 1 (take (2 ^ 30) unread)) s))) (first_state g at);
+          handed_first (g.H.Host.written c.flush.new.host) written c.flush.new.output line _ c.in_ok-flush.ensures.empty (first_written g at told)
+          ∙ ap (λ (is : List Item). written ++ (line ++ lines_of (machine is work))) (first_whole g at)
+          ∙ ap (λ (s : State). written ++ (line ++ lines_of (machine (whole_items 1 (take (2 ^ 30) unread)) s))) (first_state g at);
       texts = λ told.
-          ap (λ (is : List Item). texts ++ texts_of (machine is work)) (first_items g at)
+          ap (λ (f : Five (List ℕ)). texts_in f ++ texts_of (machine (left_items c.new.result (g.H.Source.unread c.flush.new.host)) work)) c.flush.ensures.uses.files
+          ∙ ap (λ (is : List Item). texts ++ texts_of (machine is work)) (first_items g at)
           ∙ ap (λ (s : State). texts ++ texts_of (machine (items 1 unread) s)) (first_state g at);
       telling = λ told. record {
-        enough = omega arith;
-        counted = c.requires.counted told;
-        gathered = first_gathered written c.push_opened.new.self c.args.opening.database.commits c.args.opening.database.commits (first_line g at);
+        enough = omega (arith, ap (λ (f : Five (List ℕ)). length (texts_in f)) c.flush.ensures.uses.files);
+        counted = c.requires.counted told ∙ ap (λ (f : Five (List ℕ)). length (texts_in f)) (sym c.flush.ensures.uses.files);
+        gathered = subst (λ (o : List ℕ). IsGathered written (g.H.Host.written c.flush.new.host) o c.args.opening.database.commits) (sym c.in_ok-flush.ensures.empty)
+            (first_gathered written (g.H.Host.written c.flush.new.host) c.args.opening.database.commits c.args.opening.database.commits (first_written g at told.tells));
       };
-      moments = λ told. since_none _ _;
-      alone = λ told. since_none _ _;
-      others = λ told. refl;
-      grown = λ told. omega arith;
-      count = λ told. omega (arith, c.new.ensures.room, ap length (fresh_input c.new.result unread c.new.ensures.ended c.new.ensures.ahead));
-      uses = record { standing = refl; input_later = omega arith; output_later = omega arith; disk_later = omega arith };
+      moments = first_moments g (goal.at.loop-running-init g c).After-flush;
+      alone = λ told. alone_printing (c.flush.ensures.moments told.tells);
+      others = λ told. only_log (g.H.Host.files c.args.host.now) (g.H.Host.files c.flush.new.host) c.flush.ensures.uses.files;
+      grown = λ told. (c.flush.ensures.front told).grown;
+      count = λ told. omega (arith, c.new.ensures.room, ap length (fresh_input c.new.result (g.H.Source.unread c.flush.new.host) c.new.ensures.ended c.new.ensures.ahead), ap length c.flush.ensures.uses.unread);
+      uses = output_all c.flush.ensures.uses;
     }
 
 told_turn : (g : _) (c : After-turn g) → Told g.H.Source g.H.Host c.args.host.now → Told g.H.Source g.H.Host c.loop-running.host
 told_turn g c t = record { tells = t.tells; honest = subst IsHonest (sym c.loop-running.invariant.uses.standing) t.honest }
 
 -- all that is gathered at the end is all that is left
-over : (g : _) (c : After-flush g) → left_items c.turn.new.self.reader (g.H.Source.unread c.turn.new.host) ≡ []
+over : (g : _) (c : After-flush-2 g) → left_items c.turn.new.self.reader (g.H.Source.unread c.turn.new.host) ≡ []
 over g c = let end = c.in_ok-turn.ensures.more.end c.if-branch.false in none_left c.turn.new.self.reader (g.H.Source.unread c.turn.new.host) end.0 end.1
 
-whole : (g : _) (c : After-flush g) → g.H.Source.tells
+whole : (g : _) (c : After-flush-2 g) → g.H.Source.tells
     → g.H.Host.written c.turn.new.host ++ c.push_closed.new.self ≡ g.H.Host.written c.args.host.now ++ transcript (begun_with (opened_by c.args.opening)) (g.H.Source.unread c.args.host.now)
 whole g c told =
     ended (g.H.Host.written c.turn.new.host) c.turn.new.self.output c.push_closed.new.self (rest_of (machine_of c.turn.new.self (g.H.Source.unread c.turn.new.host))) _ _
@@ -88,26 +122,26 @@ whole g c told =
     (rest_of-over _ (state_of c.turn.new.self.work) (over g c))
     c.in_ok-push_closed.ensures
 
-front_of_whole : (g : _) (c : After-flush g) → g.H.Source.tells
-    → WritesPrefix (g.H.Host.written c.args.host.now) (g.H.Host.written c.flush.new.host) (transcript (begun_with (opened_by c.args.opening)) (g.H.Source.unread c.args.host.now))
+front_of_whole : (g : _) (c : After-flush-2 g) → g.H.Source.tells
+    → WritesPrefix (g.H.Host.written c.args.host.now) (g.H.Host.written c.flush-2.new.host) (transcript (begun_with (opened_by c.args.opening)) (g.H.Source.unread c.args.host.now))
 front_of_whole g c told =
     front_after (g.H.Host.written c.args.host.now) (g.H.Host.written c.turn.new.host) _ c.push_closed.new.self _ (whole g c told)
-    (omega (arith, c.loop-running.invariant.grown told, (c.turn.ensures.front told).grown)) (c.flush.ensures.front told)
+    (omega (arith, c.loop-running.invariant.grown told, (c.turn.ensures.front told).grown)) (c.flush-2.ensures.front told)
 
-pub returns-in_err-flush-clause-front : goal.returns-in_err-flush-clause-front
-returns-in_err-flush-clause-front g c = front_of_whole g (goal.at.returns-in_err-flush-clause-front g c).After-flush
+pub returns-in_err-flush-2-clause-front : goal.returns-in_err-flush-2-clause-front
+returns-in_err-flush-2-clause-front g c = front_of_whole g (goal.at.returns-in_err-flush-2-clause-front g c).After-flush-2
 
 pub returns-clause-front : goal.returns-clause-front
-returns-clause-front g c = front_of_whole g (goal.at.returns-clause-front g c).After-flush
+returns-clause-front g c = front_of_whole g (goal.at.returns-clause-front g c).After-flush-2
 
 pub returns-clause-done : goal.returns-clause-done
-returns-clause-done g c = λ told. c.in_ok-flush.ensures.done told ∙ whole g (goal.at.returns-clause-done g c).After-flush told
+returns-clause-done g c = λ told. c.in_ok-flush-2.ensures.done told ∙ whole g (goal.at.returns-clause-done g c).After-flush-2 told
 
 pub returns-clause-read : goal.returns-clause-read
 returns-clause-read g c = λ told.
     let end = c.in_ok-turn.ensures.more.end c.if-branch.false in
     let none = ap length (over_input c.turn.new.self.reader (g.H.Source.unread c.turn.new.host) end.0 end.1) in (
-      c.flush.ensures.uses.unread ∙ c.in_ok-turn.ensures.sane.agrees told end.0,
+      c.flush-2.ensures.uses.unread ∙ c.in_ok-turn.ensures.sane.agrees told end.0,
       omega (arith, c.loop-running.invariant.count told, c.in_ok-turn.ensures.goes_on.count told, none),
     )
 
@@ -115,14 +149,14 @@ pub returns-clause-log : goal.returns-clause-log
 returns-clause-log g c = λ told.
     let i = c.loop-running.invariant in
     let ok = c.in_ok-turn.ensures in
-    let at = (goal.at.returns-clause-log g c).After-flush in
-    let still = told_turn g (goal.at.After-flush g at).After-turn told in
+    let at = (goal.at.returns-clause-log g c).After-flush-2 in
+    let still = told_turn g (goal.at.After-flush-2 g at).After-turn told in
     let after : Told g.H.Source g.H.Host c.turn.new.host = record { tells = told.tells; honest = subst IsHonest (sym c.turn.ensures.uses.standing) still.honest } in
     let none = texts_of-over _ (state_of c.turn.new.self.work) (over g at) in
     let all = sym (append-nil (texts_in (g.H.Host.files c.turn.new.host))) ∙ sym (ap (λ (l : List (List ℕ)). texts_in (g.H.Host.files c.turn.new.host) ++ l) none)
     ∙ ok.goes_on.texts still ∙ i.texts told in
     let at_turn = subst (IsWholeLog (g.H.Host.files c.turn.new.host).log) all (whole_log (g.H.Host.files c.turn.new.host) (g.H.Host.history c.turn.new.host) c.turn.new.self.work.log.gated (ok.sane.stands.log after) ok.sane.stands.epoch) in
-    subst (λ (f : Five (List ℕ)). IsWholeLog f.log (texts_in (g.H.Host.files c.args.host.now) ++ texts_from (opened_by c.args.opening) (g.H.Source.unread c.args.host.now))) (sym c.flush.ensures.uses.files) at_turn
+    subst (λ (f : Five (List ℕ)). IsWholeLog f.log (texts_in (g.H.Host.files c.args.host.now) ++ texts_from (opened_by c.args.opening) (g.H.Source.unread c.args.host.now))) (sym c.flush-2.ensures.uses.files) at_turn
 
 -- the moments of one turn more
 turned : (g : _) (c : After-turn g) → Told g.H.Source g.H.Host c.args.host.now
@@ -135,9 +169,9 @@ turned g c told =
     (c.turn.ensures.moments (told_turn g c told) _ _ (i.telling told)))
 
 -- and until the last line is handed over
-ended_moments : (g : _) (c : After-flush g) → Told g.H.Source g.H.Host c.args.host.now
+ended_moments : (g : _) (c : After-flush-2 g) → Told g.H.Source g.H.Host c.args.host.now
     → Since (IsHeld (length (texts_in (g.H.Host.files c.args.host.now))) (texts_in (g.H.Host.files c.args.host.now) ++ texts_from (opened_by c.args.opening) (g.H.Source.unread c.args.host.now)) (g.H.Host.written c.args.host.now))
-    (g.H.Host.history c.args.host.now) (g.H.Host.history c.flush.new.host)
+    (g.H.Host.history c.args.host.now) (g.H.Host.history c.flush-2.new.host)
 ended_moments g c told =
     let i = c.loop-running.invariant in
     let ok = c.in_ok-turn.ensures in
@@ -145,7 +179,7 @@ ended_moments g c told =
     let before = g.H.Host.written c.args.host.now in
     let work = c.turn.new.self.work in
     let files = g.H.Host.files c.turn.new.host in
-    let still = told_turn g (goal.at.After-flush g c).After-turn told in
+    let still = told_turn g (goal.at.After-flush-2 g c).After-turn told in
     let after : Told g.H.Source g.H.Host c.turn.new.host = record { tells = told.tells; honest = subst IsHonest (sym c.turn.ensures.uses.standing) still.honest } in
     let t = ok.telling still least before (i.telling told) in
     let none = texts_of-over _ (state_of work) (over g c) in
@@ -153,17 +187,17 @@ ended_moments g c told =
     sym (ap (λ (l : List (List ℕ)). texts_in files ++ l) none) ∙ ok.goes_on.texts still ∙ i.texts told in
     let out = sym (g.met.H.Host.output_now c.turn.new.host told.tells) in
     let all = subst (λ (o : List ℕ). IsGathered before o c.push_closed.new.self work.database.commits) out (last_gathered before _ c.turn.new.self.output c.push_closed.new.self work.database.commits work.database.commits c.in_ok-push_closed.ensures t.gathered) in
-    since_join (turned g (goal.at.After-flush g c).After-turn told)
-    (since_weaker (c.flush.ensures.moments told.tells)
+    since_join (turned g (goal.at.After-flush-2 g c).After-turn told)
+    (since_weaker (c.flush-2.ensures.moments told.tells)
     (λ m telling. subst (λ (ts : List (List ℕ)). IsHeld least ts before m) texts
     (held_telling files (g.H.Host.history c.turn.new.host) work.log.gated (ok.sane.stands.log after) ok.sane.stands.epoch least before work.database.commits t.enough t.counted c.push_closed.new.self [] m all telling)))
 
 -- what is touched until then
-turned_alone : (g : _) (c : After-turn g) → Told g.H.Source g.H.Host c.args.host.now → Since (IsLogAlone (g.H.Host.history c.args.host.now).now) (g.H.Host.history c.args.host.now) (g.H.Host.history c.turn.new.host)
+turned_alone : (g : _) (c : After-turn g) → Told g.H.Source g.H.Host c.args.host.now → Since (IsLater (g.H.Host.history c.args.host.now).now) (g.H.Host.history c.args.host.now) (g.H.Host.history c.turn.new.host)
 turned_alone g c told = alone_on (c.loop-running.invariant.alone told) (c.turn.ensures.alone (told_turn g c told))
 
-ended_alone : (g : _) (c : After-flush g) → Told g.H.Source g.H.Host c.args.host.now → Since (IsLogAlone (g.H.Host.history c.args.host.now).now) (g.H.Host.history c.args.host.now) (g.H.Host.history c.flush.new.host)
-ended_alone g c told = alone_on (turned_alone g (goal.at.After-flush g c).After-turn told) (alone_printing (c.flush.ensures.moments told.tells))
+ended_alone : (g : _) (c : After-flush-2 g) → Told g.H.Source g.H.Host c.args.host.now → Since (IsLater (g.H.Host.history c.args.host.now).now) (g.H.Host.history c.args.host.now) (g.H.Host.history c.flush-2.new.host)
+ended_alone g c told = alone_on (turned_alone g (goal.at.After-flush-2 g c).After-turn told) (alone_printing (c.flush-2.ensures.moments told.tells))
 
 pub returns-in_err-turn-clause-alone : goal.returns-in_err-turn-clause-alone
 returns-in_err-turn-clause-alone g c = turned_alone g (goal.at.returns-in_err-turn-clause-alone g c).After-turn
@@ -171,11 +205,11 @@ returns-in_err-turn-clause-alone g c = turned_alone g (goal.at.returns-in_err-tu
 pub returns-in_err-push_closed-clause-alone : goal.returns-in_err-push_closed-clause-alone
 returns-in_err-push_closed-clause-alone g c = turned_alone g (goal.at.returns-in_err-push_closed-clause-alone g c).After-turn
 
-pub returns-in_err-flush-clause-alone : goal.returns-in_err-flush-clause-alone
-returns-in_err-flush-clause-alone g c = ended_alone g (goal.at.returns-in_err-flush-clause-alone g c).After-flush
+pub returns-in_err-flush-2-clause-alone : goal.returns-in_err-flush-2-clause-alone
+returns-in_err-flush-2-clause-alone g c = ended_alone g (goal.at.returns-in_err-flush-2-clause-alone g c).After-flush-2
 
 pub returns-clause-alone : goal.returns-clause-alone
-returns-clause-alone g c = ended_alone g (goal.at.returns-clause-alone g c).After-flush
+returns-clause-alone g c = ended_alone g (goal.at.returns-clause-alone g c).After-flush-2
 
 pub returns-in_err-turn-clause-moments : goal.returns-in_err-turn-clause-moments
 returns-in_err-turn-clause-moments g c = turned g (goal.at.returns-in_err-turn-clause-moments g c).After-turn
@@ -183,11 +217,11 @@ returns-in_err-turn-clause-moments g c = turned g (goal.at.returns-in_err-turn-c
 pub returns-in_err-push_closed-clause-moments : goal.returns-in_err-push_closed-clause-moments
 returns-in_err-push_closed-clause-moments g c = turned g (goal.at.returns-in_err-push_closed-clause-moments g c).After-turn
 
-pub returns-in_err-flush-clause-moments : goal.returns-in_err-flush-clause-moments
-returns-in_err-flush-clause-moments g c = ended_moments g (goal.at.returns-in_err-flush-clause-moments g c).After-flush
+pub returns-in_err-flush-2-clause-moments : goal.returns-in_err-flush-2-clause-moments
+returns-in_err-flush-2-clause-moments g c = ended_moments g (goal.at.returns-in_err-flush-2-clause-moments g c).After-flush-2
 
 pub returns-clause-moments : goal.returns-clause-moments
-returns-clause-moments g c = ended_moments g (goal.at.returns-clause-moments g c).After-flush
+returns-clause-moments g c = ended_moments g (goal.at.returns-clause-moments g c).After-flush-2
 
 pub loop-running-preserved : goal.loop-running-preserved
 loop-running-preserved g c =
@@ -208,11 +242,11 @@ loop-running-preserved g c =
       uses = all_on i.uses c.turn.ensures.uses;
     }
 
-pub returns-in_err-flush-clause-uses : goal.returns-in_err-flush-clause-uses
-returns-in_err-flush-clause-uses g c = all_on (all_on c.loop-running.invariant.uses c.turn.ensures.uses) (output_all c.flush.ensures.uses)
+pub returns-in_err-flush-2-clause-uses : goal.returns-in_err-flush-2-clause-uses
+returns-in_err-flush-2-clause-uses g c = all_on (all_on c.loop-running.invariant.uses c.turn.ensures.uses) (output_all c.flush-2.ensures.uses)
 
 pub returns-clause-uses : goal.returns-clause-uses
-returns-clause-uses g c = all_on (all_on c.loop-running.invariant.uses c.turn.ensures.uses) (output_all c.flush.ensures.uses)
+returns-clause-uses g c = all_on (all_on c.loop-running.invariant.uses c.turn.ensures.uses) (output_all c.flush-2.ensures.uses)
 
 pub returns-in_err-turn-clause-uses : goal.returns-in_err-turn-clause-uses
 returns-in_err-turn-clause-uses g c = all_on c.loop-running.invariant.uses c.turn.ensures.uses

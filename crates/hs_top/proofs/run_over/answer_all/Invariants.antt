@@ -1,7 +1,7 @@
 use Rattle.std.proofs.Common.{◌≡◌, ◌+◌, ◌^◌, ◌≤◌, ◌++◌, length}
 use Rattle.hs_host.specs.Moments.{Since}
 use Rattle.hs_host.specs.Used.{Told, UsesAll}
-use Rattle.hs_top.specs.Crash.{IsLogAlone}
+use Rattle.hs_top.specs.Crash.{IsLater}
 use Rattle.hs_top.specs.Holding.{IsHeld, IsAcknowledging}
 use Rattle.hs_entries.specs.Reader.{left, room}
 use Rattle.hs_top.specs.Machine.{transcript, transcript_within, rest_of, lines_of, texts_of}
@@ -22,7 +22,7 @@ invariant-loop-running g l =
       texts : Told g.H.Source g.H.Host l.fn.host → texts_in (files l.host) ++ texts_of (machine_of l.running (unread l.host)) ≡ texts_in (files l.fn.host) ++ texts_from (opened_by l.fn.opening) (unread l.fn.host);
       telling : Told g.H.Source g.H.Host l.fn.host → IsAcknowledging (length (texts_in (files l.fn.host))) (written l.fn.host) (files l.host) (written l.host) l.running.output l.running.work.database.commits;
       moments : Told g.H.Source g.H.Host l.fn.host → Since (IsHeld (length (texts_in (files l.fn.host))) (texts_in (files l.fn.host) ++ texts_from (opened_by l.fn.opening) (unread l.fn.host)) (written l.fn.host)) (g.H.Host.history l.fn.host) (g.H.Host.history l.host);
-      alone : Told g.H.Source g.H.Host l.fn.host → Since (IsLogAlone (g.H.Host.history l.fn.host).now) (g.H.Host.history l.fn.host) (g.H.Host.history l.host);
+      alone : Told g.H.Source g.H.Host l.fn.host → Since (IsLater (g.H.Host.history l.fn.host).now) (g.H.Host.history l.fn.host) (g.H.Host.history l.host);
       others : Told g.H.Source g.H.Host l.fn.host → OnlyLog (files l.fn.host) (files l.host);
       grown : g.H.Source.tells → length (written l.fn.host) ≤ length (written l.host);
       count : g.H.Source.tells → room l.running.reader + length (unread l.fn.host) ≡ 2 ^ 30 + length (left l.running.reader (unread l.host)).input;

@@ -1,20 +1,19 @@
-use Rattle.std.proofs.Common.{◌≡◌, ◌⊎◌, ◌++◌, ℕ, Bool, false, List, IsTrue, inl, inr, Ok, Err, length, refl, sym, ap, subst, ◌∙◌, arith}
+use Rattle.std.proofs.Common.{◌≡◌, ◌⊎◌, ◌++◌, ℕ, Bool, true, false, List, IsTrue, inl, inr, Ok, Err, length, sym, ap, subst, ◌∙◌, arith}
 use Rattle.hs_host.specs.Files.{Five, IsHonest}
 use Rattle.hs_host.specs.declared.file_kind.FileKind.TheVariants as file
 use Rattle.hs_host.specs.Disk.{settled}
 use Rattle.hs_gate.specs.Groups.{is_born}
 use Rattle.hs_host.specs.Host.{Rose}
 use Rattle.hs_host.specs.Moments.{Moment, History, Since, disk_of}
-use Rattle.hs_host.proofs.Passing.{since_none}
-use Rattle.hs_top.specs.Crash.{IsSafe, IsSafeFromOpening, IsUnbornOrSurvives, IsLogAlone, Survives}
+use Rattle.hs_host.proofs.Passing.{since_none, same_since}
+use Rattle.hs_top.specs.Crash.{IsSafe, IsKept, IsLater, Survives}
 use Rattle.hs_top.specs.declared.damage.Damage.{Damage}
 use Rattle.hs_top.specs.declared.damage.Damage.TheVariants.{Log}
-use Rattle.hs_top.specs.declared.status.Status.{Status}
-use Rattle.hs_top.specs.declared.status.Status.TheVariants.{Done, Usage, NoMemory, InputTooLong, Damaged}
-use Rattle.hs_top.specs.Opening.{Opened, opened_of, texts_at, texts_from, IsWholeLog, IsDamageOf}
-use Rattle.hs_top.proofs.Endings.{ended_as, not_mounted_as, not_both}
+use Rattle.hs_top.specs.declared.status.Status.TheVariants.{DiskFault, NoMemory, InputTooLong, Damaged}
+use Rattle.hs_top.specs.Opening.{Opened, nothing_logged, opened_of, texts_at, texts_from, IsWholeLog, IsDamageOf}
+use Rattle.hs_top.proofs.Endings.{ended_as}
 use Rattle.hs_top.proofs.Reopened.{reopened}
-use Rattle.hs_top.proofs.Safe.{not_opened, kept_safe, left_now}
+use Rattle.hs_top.proofs.Safe.{start_safe, left_now}
 use Rattle.hs_top.proofs.run_over.run.Goals as goal
 use Rattle.hs_top.proofs.run_over.run.Goals.{After-serve}
 
@@ -94,13 +93,13 @@ module _ (g : _) (c : After-serve g) (told : g.H.Source.tells) (honest : IsHones
   is_mounted : opened_of (g.H.Host.files c.mount.new.host).log ≡ Ok opened
   is_mounted = ap opened_of (same_log g c told) ∙ is
 
-  opens : (status : Status) → IsSafeFromOpening (g.H.Host.files c.mount.new.host).log opened (g.H.Source.unread c.mount.new.host) (g.H.Host.written c.mount.new.host) status (g.H.Host.history c.mount.new.host) (g.H.Host.history c.serve.new.host)
-      → IsSafeFromOpening (g.H.Host.files c.args.host.now).log opened (g.H.Source.unread c.args.host.now) (g.H.Host.written c.args.host.now) status (g.H.Host.history c.args.host.now) (g.H.Host.history c.serve.new.host)
-  opens status serves =
-      subst (λ (old : List ℕ). IsSafeFromOpening old opened (g.H.Source.unread c.args.host.now) (g.H.Host.written c.args.host.now) status (g.H.Host.history c.args.host.now) (g.H.Host.history c.serve.new.host)) (same_log g c told)
-      (subst (λ (h : History). IsSafeFromOpening (g.H.Host.files c.mount.new.host).log opened (g.H.Source.unread c.args.host.now) (g.H.Host.written c.args.host.now) status h (g.H.Host.history c.serve.new.host)) (c.mount.ensures.history told)
-      (subst (λ (i : List ℕ). IsSafeFromOpening (g.H.Host.files c.mount.new.host).log opened i (g.H.Host.written c.args.host.now) status (g.H.Host.history c.mount.new.host) (g.H.Host.history c.serve.new.host)) c.mount.ensures.unread
-      (subst (λ (w : List ℕ). IsSafeFromOpening (g.H.Host.files c.mount.new.host).log opened (g.H.Source.unread c.mount.new.host) w status (g.H.Host.history c.mount.new.host) (g.H.Host.history c.serve.new.host)) c.mount.ensures.written
+  opens : Since (IsKept (g.H.Host.files c.mount.new.host) opened (g.H.Source.unread c.mount.new.host) (g.H.Host.written c.mount.new.host) (g.H.Host.history c.mount.new.host).now) (g.H.Host.history c.mount.new.host) (g.H.Host.history c.serve.new.host)
+      → Since (IsKept (g.H.Host.files c.args.host.now) opened (g.H.Source.unread c.args.host.now) (g.H.Host.written c.args.host.now) (g.H.Host.history c.args.host.now).now) (g.H.Host.history c.args.host.now) (g.H.Host.history c.serve.new.host)
+  opens serves =
+      subst (λ (f : Five (List ℕ)). Since (IsKept f opened (g.H.Source.unread c.args.host.now) (g.H.Host.written c.args.host.now) (g.H.Host.history c.args.host.now).now) (g.H.Host.history c.args.host.now) (g.H.Host.history c.serve.new.host)) (c.mount.ensures.files told)
+      (subst (λ (h : History). Since (IsKept (g.H.Host.files c.mount.new.host) opened (g.H.Source.unread c.args.host.now) (g.H.Host.written c.args.host.now) h.now) h (g.H.Host.history c.serve.new.host)) (c.mount.ensures.history told)
+      (subst (λ (i : List ℕ). Since (IsKept (g.H.Host.files c.mount.new.host) opened i (g.H.Host.written c.args.host.now) (g.H.Host.history c.mount.new.host).now) (g.H.Host.history c.mount.new.host) (g.H.Host.history c.serve.new.host)) c.mount.ensures.unread
+      (subst (λ (w : List ℕ). Since (IsKept (g.H.Host.files c.mount.new.host) opened (g.H.Source.unread c.mount.new.host) w (g.H.Host.history c.mount.new.host).now) (g.H.Host.history c.mount.new.host) (g.H.Host.history c.serve.new.host)) c.mount.ensures.written
       serves)))
 
   safe_in_run : (m : Moment) → IsSafe (g.H.Host.files c.mount.new.host).log opened (g.H.Source.unread c.mount.new.host) (g.H.Host.written c.mount.new.host) m → IsSafe (g.H.Host.files c.args.host.now).log opened (g.H.Source.unread c.args.host.now) (g.H.Host.written c.args.host.now) m
@@ -110,52 +109,40 @@ module _ (g : _) (c : After-serve g) (told : g.H.Source.tells) (honest : IsHones
       (subst (λ (w : List ℕ). IsSafe (g.H.Host.files c.mount.new.host).log opened (g.H.Source.unread c.mount.new.host) w m) c.mount.ensures.written safe))
 
 pub returns-in_default-clause-crash : goal.returns-in_default-clause-crash
-returns-in_default-clause-crash g c = λ told honest quiet opened is. not_opened _ opened _ _ Usage _ refl
+returns-in_default-clause-crash g c = λ told honest quiet opened is. since_none _ _
 
 pub returns-in-Err-clause-crash : goal.returns-in-Err-clause-crash
-returns-in-Err-clause-crash g c = λ told honest quiet opened is.
-    subst (λ (new : History). IsSafeFromOpening (g.H.Host.files c.args.host.now).log opened (g.H.Source.unread c.args.host.now) (g.H.Host.written c.args.host.now) c.in-Err.status (g.H.Host.history c.args.host.now) new) (sym (c.mount.ensures.history told))
-    (not_opened _ opened _ _ c.in-Err.status _ (not_mounted_as c.in-Err.status c.in-Err.ensures.only))
+returns-in-Err-clause-crash g c = λ told honest quiet opened is. same_since (c.mount.ensures.history told)
 
 pub returns-in-Ok-clause-crash : goal.returns-in-Ok-clause-crash
 returns-in-Ok-clause-crash g c = λ told honest quiet opened is.
     let at = (goal.at.returns-in-Ok-clause-crash g c).After-serve in
-    opens g at told honest quiet opened is Done (c.in-Ok.ensures.crash told (still g at honest) (quiet_mounted g at told quiet) opened (is_mounted g at told honest quiet opened is))
+    opens g at told honest quiet opened is (c.serve.ensures.crash told (still g at honest) (quiet_mounted g at told quiet) opened (is_mounted g at told honest quiet opened is))
 
 pub returns-in-Err-serve-clause-crash : goal.returns-in-Err-serve-clause-crash
 returns-in-Err-serve-clause-crash g c = λ told honest quiet opened is.
     let at = (goal.at.returns-in-Err-serve-clause-crash g c).After-serve in
-    opens g at told honest quiet opened is c.in-Err-serve.status (c.in-Err-serve.ensures.crash told (still g at honest) (quiet_mounted g at told quiet) opened (is_mounted g at told honest quiet opened is))
+    opens g at told honest quiet opened is (c.serve.ensures.crash told (still g at honest) (quiet_mounted g at told quiet) opened (is_mounted g at told honest quiet opened is))
 
 pub returns-in_default-clause-safe : goal.returns-in_default-clause-safe
-returns-in_default-clause-safe g c = λ told honest quiet opened is.
-    let old = (g.H.Host.files c.args.host.now).log in
-    let input = g.H.Source.unread c.args.host.now in
-    let before = g.H.Host.written c.args.host.now in
-    let h = g.H.Host.history c.args.host.now in
-    kept_safe old opened input before h h Usage is quiet (g.met.H.Host.output_now c.args.host.now told) (not_opened old opened input before Usage h refl) (λ has. absurd (cc))
+returns-in_default-clause-safe g c = λ told honest quiet opened is when.
+    start_safe (g.H.Host.files c.args.host.now).log opened (g.H.Source.unread c.args.host.now) (g.H.Host.written c.args.host.now) (g.H.Host.history c.args.host.now).now is quiet (g.met.H.Host.output_now c.args.host.now told)
 
 pub returns-in-Err-clause-safe : goal.returns-in-Err-clause-safe
-returns-in-Err-clause-safe g c = λ told honest quiet opened is has.
-    let old = (g.H.Host.files c.args.host.now).log in
-    let input = g.H.Source.unread c.args.host.now in
-    let before = g.H.Host.written c.args.host.now in
-    let h = g.H.Host.history c.args.host.now in
-    subst (λ (new : History). IsSafe old opened input before new.now) (sym (c.mount.ensures.history told))
-    (kept_safe old opened input before h h c.in-Err.status is quiet (g.met.H.Host.output_now c.args.host.now told) (not_opened old opened input before c.in-Err.status h (not_mounted_as c.in-Err.status c.in-Err.ensures.only))
-    (λ later. absurd (not_both c.in-Err.status (not_mounted_as c.in-Err.status c.in-Err.ensures.only) later)) has)
+returns-in-Err-clause-safe g c = λ told honest quiet opened is when.
+    subst (λ (new : History). IsSafe (g.H.Host.files c.args.host.now).log opened (g.H.Source.unread c.args.host.now) (g.H.Host.written c.args.host.now) new.now) (sym (c.mount.ensures.history told))
+    (start_safe (g.H.Host.files c.args.host.now).log opened (g.H.Source.unread c.args.host.now) (g.H.Host.written c.args.host.now) (g.H.Host.history c.args.host.now).now is quiet (g.met.H.Host.output_now c.args.host.now told))
 
 pub returns-in-Ok-clause-safe : goal.returns-in-Ok-clause-safe
-returns-in-Ok-clause-safe g c = λ told honest quiet opened is has.
+returns-in-Ok-clause-safe g c = λ told honest quiet opened is when.
     let at = (goal.at.returns-in-Ok-clause-safe g c).After-serve in
     safe_in_run g at told honest quiet opened is (g.H.Host.history c.serve.new.host).now (c.in-Ok.ensures.safe told (still g at honest) (quiet_mounted g at told quiet) opened (is_mounted g at told honest quiet opened is))
 
 pub returns-in-Err-serve-clause-safe : goal.returns-in-Err-serve-clause-safe
-returns-in-Err-serve-clause-safe g c = λ told honest quiet opened is.
+returns-in-Err-serve-clause-safe g c = λ told honest quiet opened is when.
     let at = (goal.at.returns-in-Err-serve-clause-safe g c).After-serve in
-    kept_safe (g.H.Host.files c.args.host.now).log opened (g.H.Source.unread c.args.host.now) (g.H.Host.written c.args.host.now) (g.H.Host.history c.args.host.now) (g.H.Host.history c.serve.new.host) c.in-Err-serve.status
-    is quiet (g.met.H.Host.output_now c.args.host.now told) (returns-in-Err-serve-clause-crash g c told honest quiet opened is)
-    (λ has. safe_in_run g at told honest quiet opened is (g.H.Host.history c.serve.new.host).now (c.in-Err-serve.ensures.safe told (still g at honest) (quiet_mounted g at told quiet) opened (is_mounted g at told honest quiet opened is) has))
+    safe_in_run g at told honest quiet opened is (g.H.Host.history c.serve.new.host).now (c.in-Err-serve.ensures.safe told (still g at honest) (quiet_mounted g at told quiet) opened (is_mounted g at told honest quiet opened is)
+    (subst (λ (log : List ℕ). (is_born log ≡ true) ⊎ ((c.in-Err-serve.status ≡ DiskFault → ⊥) × (c.in-Err-serve.status ≡ NoMemory → ⊥))) (sym (same_log g at told)) when))
 
 -- the log as it stands after serving
 still_after : (g : _) (c : After-serve g) → IsHonest (g.H.Host.standing c.args.host.now) → IsHonest (g.H.Host.standing c.serve.new.host)
@@ -189,13 +176,13 @@ returns-in-Err-serve-clause-left g c = λ told honest quiet opened is has.
 
 -- a log that was not born, after serving
 begun_in_run : (g : _) (c : After-serve g) → g.H.Source.tells → IsHonest (g.H.Host.standing c.args.host.now) → is_born (g.H.Host.files c.args.host.now).log ≡ false
-    → IsUnbornOrSurvives (g.H.Host.files c.args.host.now).log (g.H.Source.unread c.args.host.now) (g.H.Host.written c.args.host.now) (g.H.Host.written c.serve.new.host) (g.H.Host.files c.serve.new.host).log
+    → (is_born (g.H.Host.files c.serve.new.host).log ≡ false) ⊎ Survives (g.H.Host.files c.args.host.now).log nothing_logged (g.H.Source.unread c.args.host.now) (g.H.Host.written c.args.host.now) (g.H.Host.written c.serve.new.host) (g.H.Host.files c.serve.new.host).log
 begun_in_run g c told honest unborn =
     let out = g.H.Host.written c.serve.new.host in
     let log = (g.H.Host.files c.serve.new.host).log in
-    subst (λ (old : List ℕ). IsUnbornOrSurvives old (g.H.Source.unread c.args.host.now) (g.H.Host.written c.args.host.now) out log) (same_log g c told)
-    (subst (λ (i : List ℕ). IsUnbornOrSurvives (g.H.Host.files c.mount.new.host).log i (g.H.Host.written c.args.host.now) out log) c.mount.ensures.unread
-    (subst (λ (w : List ℕ). IsUnbornOrSurvives (g.H.Host.files c.mount.new.host).log (g.H.Source.unread c.mount.new.host) w out log) c.mount.ensures.written
+    subst (λ (old : List ℕ). (is_born log ≡ false) ⊎ Survives old nothing_logged (g.H.Source.unread c.args.host.now) (g.H.Host.written c.args.host.now) out log) (same_log g c told)
+    (subst (λ (i : List ℕ). (is_born log ≡ false) ⊎ Survives (g.H.Host.files c.mount.new.host).log nothing_logged i (g.H.Host.written c.args.host.now) out log) c.mount.ensures.unread
+    (subst (λ (w : List ℕ). (is_born log ≡ false) ⊎ Survives (g.H.Host.files c.mount.new.host).log nothing_logged (g.H.Source.unread c.mount.new.host) w out log) c.mount.ensures.written
     (c.serve.ensures.begun told (still g c honest) (ap is_born (same_log g c told) ∙ unborn))))
 
 pub returns-in_default-clause-begun : goal.returns-in_default-clause-begun
@@ -217,12 +204,12 @@ returns-in_default-clause-alone g c = λ told honest quiet. since_none _ _
 pub returns-in-Err-clause-alone : goal.returns-in-Err-clause-alone
 returns-in-Err-clause-alone g c = λ told honest quiet.
     let h = g.H.Host.history c.args.host.now in
-    subst (λ (new : History). Since (IsLogAlone h.now) h new) (sym (c.mount.ensures.history told)) (since_none _ h)
+    subst (λ (new : History). Since (IsLater h.now) h new) (sym (c.mount.ensures.history told)) (since_none _ h)
 
 alone_in_run : (g : _) (c : After-serve g) → g.H.Source.tells → IsHonest (g.H.Host.standing c.args.host.now) → disk_of (g.H.Host.history c.args.host.now).now file.Log ≡ settled (g.H.Host.files c.args.host.now).log
-    → Since (IsLogAlone (g.H.Host.history c.args.host.now).now) (g.H.Host.history c.args.host.now) (g.H.Host.history c.serve.new.host)
+    → Since (IsLater (g.H.Host.history c.args.host.now).now) (g.H.Host.history c.args.host.now) (g.H.Host.history c.serve.new.host)
 alone_in_run g c told honest quiet =
-    subst (λ (h : History). Since (IsLogAlone h.now) h (g.H.Host.history c.serve.new.host)) (c.mount.ensures.history told) (c.serve.ensures.alone told (still g c honest) (quiet_mounted g c told quiet))
+    subst (λ (h : History). Since (IsLater h.now) h (g.H.Host.history c.serve.new.host)) (c.mount.ensures.history told) (c.serve.ensures.alone told (still g c honest) (quiet_mounted g c told quiet))
 
 pub returns-in-Ok-clause-alone : goal.returns-in-Ok-clause-alone
 returns-in-Ok-clause-alone g c = alone_in_run g (goal.at.returns-in-Ok-clause-alone g c).After-serve

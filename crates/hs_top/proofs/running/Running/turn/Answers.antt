@@ -9,7 +9,7 @@ use Rattle.hs_entries.specs.Left.{KeepsRoom}
 use Rattle.hs_entries.specs.Reader.{left, left_items, left_whole, next_number}
 use Rattle.hs_machine.specs.Lines.{printed}
 use Rattle.hs_top.specs.Acknowledged.{IsNamed, are_named}
-use Rattle.hs_top.specs.Crash.{IsLogAlone}
+use Rattle.hs_top.specs.Crash.{IsLater}
 use Rattle.hs_top.specs.Holding.{IsHeld, IsGathered, IsAcknowledging}
 use Rattle.hs_top.specs.Machine.{State, WritesPrefix, machine, step_of, rest_of, texts_of}
 use Rattle.hs_top.specs.Running.{Stands, machine_of, state_of, texts_in}
@@ -168,7 +168,7 @@ returns-clause-telling g c = λ told least before t.
 
 -- what is touched in the turn
 turning_alone : (g : _) (c : After-answer g) → Told g.H.Source g.H.Host c.args.host.now
-    → Since (IsLogAlone (g.H.Host.history c.args.host.now).now) (g.H.Host.history c.args.host.now) (g.H.Host.history c.answer.new.host)
+    → Since (IsLater (g.H.Host.history c.args.host.now).now) (g.H.Host.history c.args.host.now) (g.H.Host.history c.answer.new.host)
 turning_alone g c told =
     let at = (goal.at.After-answer g c).In-Ok in
     alone_on (alone_printing (c.next_item.ensures.moments told.tells)) (c.answer.ensures.alone (still g at told))
