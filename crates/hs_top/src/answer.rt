@@ -200,7 +200,8 @@ fn execute<H: Host>(
     }
 }
 
-// Changes the database, and logs the commit before its reply is gathered.
+// Changes the database, and logs the commit. Its reply is gathered before, so that it isn't lost to want of memory once
+// the commit stands, and taken back where it doesn't.
 fn change<H: Host>(
     alloc: Global,
     number: u64,
@@ -228,8 +229,12 @@ fn change<H: Host>(
     let end = log.end();
     prove!(database.commits < end);
     let reply = database.change(alloc, statement)?;
-    log_commit(&reply, session, text, log, host)?;
+    let mark = output.len();
     output.push_reply(number, name, &reply)?;
+    if let Err(stop) = log_commit(&reply, session, text, log, host) {
+        output.truncate(mark);
+        return Err(stop);
+    }
     Ok(())
 }
 

@@ -1,5 +1,5 @@
 // The output that is gathered, line by line.
-ghost use Rattle.std.specs.Prelude.{◌≡◌, ◌++◌, [], length, codes, OnOk};
+ghost use Rattle.std.specs.Prelude.{◌≡◌, ◌≤◌, ◌++◌, [], length, take, codes, OnOk};
 ghost use Rattle.std.specs.Fmt.{decimal};
 ghost use Rattle.hs_machine.specs.Lines.{OpenedAt, ClosedAt, RowOf, OkOf, RefusedOf, printed_line, count_text, committed_text, text_or_nothing, refusal_text};
 ghost use Rattle.hs_machine.specs.Replies.{final_line, number_of};
@@ -52,6 +52,14 @@ impl Output {
         ensures { result ≡ length self.now }
     {
         self.text.len()
+    }
+
+    /// Takes back what was gathered behind so many bytes.
+    pub fn truncate(&mut self, len: usize)
+        requires { len ≤ length self.old }
+        ensures { self.new ≡ take len self.old }
+    {
+        self.text.truncate(len);
     }
 
     /// Forgets what is gathered, and keeps its memory.
