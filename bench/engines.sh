@@ -18,9 +18,13 @@
 # It proves and builds the program by bin/hsql where need be, and works in folders of its own, below FOLDER and /dev/shm,
 # which it removes at the end. An engine that isn't there is left out. The jars of the last three are looked for in the
 # folder JARS (/usr/share/java if not set). The peaks need GNU time as /usr/bin/time. This is no part of the gate.
+# Words are parted on purpose here: an engine stands with its style in one word, and an answer is rows and sums.
+# shellcheck disable=SC2046,SC2086,SC2178,SC2128,SC2207
 set -eu
 export LC_ALL=C
 top=$(cd "$(dirname "${BASH_SOURCE[0]}")/.." && pwd)
+# shellcheck source=bench/shared.sh
+. "$top/bench/shared.sh"
 part=${1:-all}
 rows=${2:-100000}
 jars=${JARS:-/usr/share/java}
@@ -46,10 +50,6 @@ fail() {
     echo "engines.sh: $1" >&2
     exit 70
 }
-
-reckon() { awk "BEGIN { printf \"%.${2:-0}f\", $1 }"; }
-
-median() { printf '%s\n' "$@" | sort -g | sed -n "$((($# + 1) / 2))p"; }
 
 # line NAME ROWS FIGURE.., up to four figures.
 line() { printf '%-52s %8s %12s %12s %12s %12s\n' "$@" | sed 's/ *$//'; }
@@ -111,11 +111,6 @@ seconds_of() {
     seconds=$({ time "$@" >"$memory/output" 2>"$memory/errors"; } 2>&1) || fail "$* ended with an error: $(cat "$memory/errors")"
 }
 
-# The keys are those of bench/Engines.java.
-rows_of() {
-    awk -v count="$1" 'BEGIN { for (at = 1; at <= count; at++) printf "INSERT INTO T VALUES (%d,%d);\n", (at * 48271) % 2147483647, -at }'
-}
-
 sums_of() {
     awk -F "$1" -v first="$2" '{ rows++; n += $first; m += $(first + 1) } END { printf "%.0f %.0f %.0f\n", rows, n, m }'
 }
@@ -123,7 +118,8 @@ sums_of() {
 # inputs_of COUNT: makes, once, the inputs of so many rows and what a SELECT of them must answer.
 inputs_of() {
     [ ! -e "$memory/$1.answer" ] || return 0
-    rows_of "$1" >"$memory/inserts"
+    # The keys are those of bench/Engines.java.
+    inserts_of "$1" >"$memory/inserts"
     { echo "a: CREATE TABLE T (N BIGINT, M BIGINT);"; sed 's/^/a: /' "$memory/inserts"; } >"$memory/$1.hsql"
     {
         echo "PRAGMA journal_mode=WAL; PRAGMA synchronous=FULL; CREATE TABLE T (N INTEGER, M INTEGER);"

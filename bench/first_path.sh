@@ -9,6 +9,8 @@
 # they are left out.
 set -eu
 top=$(cd "$(dirname "${BASH_SOURCE[0]}")/.." && pwd)
+# shellcheck source=bench/shared.sh
+. "$top/bench/shared.sh"
 rows=${1:-1000000}
 work=$(mktemp -d /dev/shm/hsql-bench.XXXXXX)
 trap 'rm -rf "$work"' EXIT
@@ -49,12 +51,12 @@ run() {
 
 # median_run INPUT COMMITS: the median of three runs, and the peak of the last.
 median_run() {
-    local all=""
+    local all=()
     for _ in 1 2 3; do
         run "$1" "$2"
-        all="$all $seconds"
+        all+=("$seconds")
     done
-    seconds=$(printf '%s\n' $all | sort -g | sed -n 2p)
+    seconds=$(median "${all[@]}")
 }
 
 # short_runs TABLES: sets `seconds` for that many runs, each over a new database of so many tables with 1,000 rows in all. With 0 tables
@@ -72,8 +74,6 @@ short_runs() {
     rm -f "$work"/new*
     seconds=$(reckon "$user + $system" 3)
 }
-
-reckon() { awk "BEGIN { printf \"%.${2:-0}f\", $1 }"; }
 
 "$top/bin/hsql" "$work/bench" </dev/null >/dev/null
 program="$top/crates/hsql/out/hsql"

@@ -8,13 +8,13 @@
 # where it is missing. Logs for opening are made in memory below /dev/shm. This is no part of the gate.
 set -eu
 top=$(cd "$(dirname "${BASH_SOURCE[0]}")/.." && pwd)
+# shellcheck source=bench/shared.sh
+. "$top/bench/shared.sh"
 work=$(mktemp -d "${1:-.}/hsql-log.XXXXXX")
 memory=$(mktemp -d /dev/shm/hsql-log.XXXXXX)
 trap 'rm -rf "$work" "$memory"' EXIT
 inserts=300
 rounds=9
-
-reckon() { awk "BEGIN { printf \"%.${2:-0}f\", $1 }"; }
 
 # seconds_of COMMAND..: sets `seconds` of the clock, and `spent` of the processor. Standard input is handed on.
 seconds_of() {
@@ -23,8 +23,6 @@ seconds_of() {
     seconds=$real
     spent=$(reckon "$user + $system" 3)
 }
-
-rows_of() { awk -v count="$1" 'BEGIN { for (at = 1; at <= count; at++) printf "a: INSERT INTO T VALUES (%d,%d);\n", (at * 48271) % 2147483647, -at }'; }
 
 expect() {
     if [ "$(tail -n 1 "$work/output")" != "$1" ]; then
@@ -37,51 +35,50 @@ expect() {
 program="$top/crates/hsql/out/hsql"
 cc -O2 -o "$work/plain_log" "$top/bench/plain_log.c"
 
-{ echo "a: CREATE TABLE T (N BIGINT, M BIGINT);"; rows_of $inserts; } >"$work/rows"
+{ echo "a: CREATE TABLE T (N BIGINT, M BIGINT);"; inserts_of "$inserts" "a: "; } >"$work/rows"
 {
     echo "PRAGMA journal_mode=WAL; PRAGMA synchronous=FULL; CREATE TABLE T (N INTEGER, M INTEGER);"
     sed -n 's/^a: INSERT/INSERT/p' "$work/rows"
 } >"$work/rows.sqlite"
 
 # Short rounds of each in turn, since a disk's syncs vary from second to second; the median is of each alone.
-loops="" ours="" theirs=""
+loops=() ours=() theirs=()
 for ((round = 1; round <= rounds; round++)); do
-    seconds_of "$work/plain_log" "$work/plain.$round" $inserts
-    loops="$loops $seconds"
+    seconds_of "$work/plain_log" "$work/plain.$round" "$inserts"
+    loops+=("$seconds")
     seconds_of "$program" "$work/ours.$round" <"$work/rows"
     expect "closed at $((inserts + 1))"
-    ours="$ours $seconds"
+    ours+=("$seconds")
     if command -v sqlite3 >/dev/null; then
         seconds_of sqlite3 "$work/theirs.$round" <"$work/rows.sqlite"
-        theirs="$theirs $seconds"
+        theirs+=("$seconds")
     fi
 done
-median() { printf '%s\n' "$@" | sort -g | sed -n "$((($# + 1) / 2))p"; }
-loop=$(median $loops)
-our=$(median $ours)
+loop=$(median "${loops[@]}")
+our=$(median "${ours[@]}")
 echo "$rounds rounds of $inserts durable INSERTs: hsql $(reckon "$inserts / $our") a second, a plain loop $(reckon "$inserts / $loop"), ratio $(reckon "$loop / $our" 2)"
-if [ -n "$theirs" ]; then
-    their=$(median $theirs)
+if [ ${#theirs[@]} -gt 0 ]; then
+    their=$(median "${theirs[@]}")
     echo "SQLite (WAL, synchronous FULL, one INSERT a transaction): $(reckon "$inserts / $their") a second, hsql is $(reckon "$their / $our" 2) of it"
 fi
 
 # Opening logs, from memory, so that the program is what is measured.
 for commits in 100000 1000000; do
-    { echo "a: CREATE TABLE T (N BIGINT, M BIGINT);"; rows_of $((commits - 1)); } | "$program" "$memory/db" >"$work/output"
+    { echo "a: CREATE TABLE T (N BIGINT, M BIGINT);"; inserts_of $((commits - 1)) "a: "; } | "$program" "$memory/db" >"$work/output"
     expect "closed at $commits"
-    all="" spents=""
+    all=() spents=()
     for _ in 1 2 3; do
         seconds_of "$program" "$memory/db" </dev/null
         expect "closed at $commits"
-        all="$all $seconds"
-        spents="$spents $spent"
+        all+=("$seconds")
+        spents+=("$spent")
     done
     peak=""
     if [ -x /usr/bin/time ]; then
         /usr/bin/time -f '%M' -o "$work/spent" "$program" "$memory/db" </dev/null >"$work/output"
         peak=", peak $(reckon "$(cat "$work/spent") / 1024") MiB"
     fi
-    echo "a log of $commits commits ($(stat -c %s "$memory/db.log") bytes) opens in $(median $all) s, $(median $spents) s of the processor$peak"
+    echo "a log of $commits commits ($(stat -c %s "$memory/db.log") bytes) opens in $(median "${all[@]}") s, $(median "${spents[@]}") s of the processor$peak"
     rm -f "$memory"/db.*
 done
 

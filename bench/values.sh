@@ -55,35 +55,42 @@ use std::env;
 use std::io;
 use std::time::Instant;
 
-/// The sum of two decimals of different scales, with the making of both.
-fn sum(units: i128, addend: i128) -> Result<Dec, EvalFault> {
-    let a = checked_decimal(units, 2)?;
-    let b = checked_decimal(addend, 0)?;
+/// The scales of two operands. They are known only when the program runs, so that the compiler folds nothing.
+#[derive(Clone, Copy)]
+struct Scales {
+    left: u8,
+    right: u8,
+}
+
+/// The sum of two decimals of these scales, with the making of both.
+fn sum(units: i128, addend: i128, scales: Scales) -> Result<Dec, EvalFault> {
+    let a = checked_decimal(units, scales.left)?;
+    let b = checked_decimal(addend, scales.right)?;
     add(a, b)
 }
 
 /// A quotient of 38 digits, of numbers of 38 digits, with the making of both.
-fn quotient(dividend: i128, divisor: i128) -> Result<Dec, EvalFault> {
-    let a = checked_decimal(dividend, 38)?;
-    let b = checked_decimal(divisor, 38)?;
+fn quotient(dividend: i128, divisor: i128, scales: Scales) -> Result<Dec, EvalFault> {
+    let a = checked_decimal(dividend, scales.left)?;
+    let b = checked_decimal(divisor, scales.right)?;
     div(a, b)
 }
 
-fn sums(count: u32, seed: i128) -> i128 {
+fn sums(count: u32, seed: i128, scales: Scales) -> i128 {
     let mut total = seed;
     for at in 0..count {
-        if let Ok(d) = sum(total >> 32, i128::from(at)) {
+        if let Ok(d) = sum(total >> 32, i128::from(at), scales) {
             total = total.wrapping_add(d.units);
         }
     }
     total
 }
 
-fn quotients(count: u32, seed: i128) -> i128 {
+fn quotients(count: u32, seed: i128, scales: Scales) -> i128 {
     let mut total = seed;
     for at in 0..count {
         let dividend = 50_000_000_000_000_000_000_000_000_000_000_000_000i128.wrapping_add(i128::from(at));
-        if let Ok(d) = quotient(dividend, 70_000_000_000_000_000_000_000_000_000_000_000_003) {
+        if let Ok(d) = quotient(dividend, 70_000_000_000_000_000_000_000_000_000_000_000_003, scales) {
             total = total.wrapping_add(d.units);
         }
     }
@@ -91,16 +98,16 @@ fn quotients(count: u32, seed: i128) -> i128 {
 }
 
 /// How many of these decimals are below one of another scale.
-fn comparisons(count: u32, seed: i128) -> u32 {
+fn comparisons(count: u32, seed: i128, scales: Scales) -> u32 {
     let mut below = 0u32;
     let b = Dec {
         units: 12_345_678_901_234_567_890,
-        scale: 7,
+        scale: scales.right,
     };
     for at in 0..count {
         let a = Dec {
             units: seed.wrapping_mul(i128::from(at)),
-            scale: 2,
+            scale: scales.left,
         };
         if let Ordering::Less = order(ValueRef::Dec(a), ValueRef::Dec(b)) {
             below = below.saturating_add(1);
@@ -110,18 +117,24 @@ fn comparisons(count: u32, seed: i128) -> u32 {
 }
 
 fn main(rt: HostRuntime) -> io::Result<()> {
-    let seed = (env::args(&rt)?.count() as i128).wrapping_mul(1_234_567_890_123);
+    // There is one word, the program's name; the scales of sums are 2 and 0, of comparisons 2 and 7, of quotients 38.
+    let words = env::args(&rt)?.count();
+    let seed = (words as i128).wrapping_mul(1_234_567_890_123);
+    let word = u8::try_from(words).unwrap_or(1);
+    let unlike = Scales { left: word.wrapping_add(1), right: word.wrapping_sub(1) };
+    let far = Scales { left: word.wrapping_add(1), right: word.wrapping_add(6) };
+    let wide = Scales { left: word.wrapping_add(37), right: word.wrapping_add(37) };
     for _round in 0..101u32 {
         let start = Instant::now(&rt)?;
-        let total = sums(20_000, seed);
+        let total = sums(20_000, seed, unlike);
         let spent = start.elapsed(&rt)?.as_nanos();
         println!(rt; "decimal_sum 20000 {spent} {total}")?;
         let start = Instant::now(&rt)?;
-        let below = comparisons(50_000, seed);
+        let below = comparisons(50_000, seed, far);
         let spent = start.elapsed(&rt)?.as_nanos();
         println!(rt; "decimal_comparison 50000 {spent} {below}")?;
         let start = Instant::now(&rt)?;
-        let total = quotients(2_000, seed);
+        let total = quotients(2_000, seed, wide);
         let spent = start.elapsed(&rt)?.as_nanos();
         println!(rt; "decimal_quotient_38_by_38 2000 {spent} {total}")?;
     }
@@ -233,7 +246,7 @@ rank() {
         awk -v part="$2" '{ v[NR] = $1 } END { print v[1 + int((NR - 1) * part)] }'
 }
 
-for label in $(cut -d ' ' -f 1 "$work/rounds" | sort -u); do
+while read -r label; do
     median=$(rank "$label" 0.5) least=$(rank "$label" 0)
     case $label in
         like_*)
@@ -249,4 +262,4 @@ for label in $(cut -d ' ' -f 1 "$work/rounds" | sort -u); do
             printf '%-26s median %7.1f, best %7.1f ns a call (wanted: at most %s)\n' "$label" "$median" "$least" "$most"
             ;;
     esac
-done
+done < <(cut -d ' ' -f 1 "$work/rounds" | sort -u)

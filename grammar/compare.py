@@ -5,6 +5,9 @@
 
 For each token list both must accept it, or name the same first token with which no sentence begins. The words that aren't
 offered aren't in `literal.ebnf`: where the table refuses one, the literal grammar has to leave off at it.
+
+Before the random ones come sentences for each alternative of `literal.ebnf`. In the end each production of the table, but for those
+that refuse a word, has to have been met in a sentence; else the program names them and ends with 1.
 """
 import os
 import random
@@ -112,6 +115,34 @@ class Literal:
                 tokens.append(rng.choice(sorted(part)))
         return tokens
 
+    def ways(self):
+        """By rule, an alternative and a place in it at which the rule stands, on the shortest way from `start`."""
+        found = {'start': None}
+        work = ['start']
+        for rule in work:
+            for k, parts in enumerate(self.rules[rule]):
+                for at, part in enumerate(parts):
+                    if isinstance(part, str) and part not in found:
+                        found[part] = (rule, k, at)
+                        work.append(part)
+        return found
+
+    def written(self, parts, spare, rng):
+        """Tokens for parts, each with up to so many more than it needs."""
+        tokens = []
+        for part in parts:
+            tokens += self.sentence(part, self.low[part] + rng.randint(0, spare), rng) if isinstance(part, str) else [rng.choice(sorted(part))]
+        return tokens
+
+    def sentence_by(self, ways, rule, k, spare, rng):
+        """A sentence in which this alternative of the rule is used."""
+        tokens = self.written(self.rules[rule][k], spare, rng)
+        while ways[rule] is not None:
+            rule, k, at = ways[rule]
+            parts = self.rules[rule][k]
+            tokens = self.written(parts[:at], spare, rng) + tokens + self.written(parts[at + 1:], spare, rng)
+        return tokens
+
     def fault(self, tokens):
         """The first token with which no sentence begins; their number, where they only begin one; None for a sentence."""
         columns = [set()]
@@ -161,8 +192,8 @@ class Literal:
         raise AssertionError
 
 
-def run(g, tokens):
-    """What the table makes of tokens: their items, or the place of a fault and whether it is a refusal."""
+def run(g, tokens, used=None):
+    """What the table makes of tokens: their items, or the place of a fault and whether it is a refusal. The productions that are used are put into a set."""
     def column(at):
         if at >= len(tokens):
             return 0
@@ -205,15 +236,17 @@ def run(g, tokens):
             production = g.rows[rule][column(at)]
             if production == 0:
                 return None, at, False
+            if used is not None:
+                used.add(production)
             stack += reversed(g.productions[production][1])
     if at < len(tokens):
         return None, at, False
     return items, at, False
 
 
-def exact(g, tokens):
+def exact(g, tokens, used=None):
     """The same, with the exact place where the next token's column hides it."""
-    items, at, refused = run(g, tokens)
+    items, at, refused = run(g, tokens, used)
     if items is None and at < len(tokens) and tokens[at] in g.seen:
         before = g.seen[tokens[at]][0]
         other = 0 if at + 1 < len(tokens) and tokens[at + 1] == before else before
@@ -234,6 +267,63 @@ def scale_fault(g, tokens, limit):
     return None
 
 
+# Where parentheses stand in parentheses, it's what comes behind them that tells what they hold.
+PLACES = ['VALUES ( {} )', 'VALUES ( 1 IN {} )', 'VALUES ( 1 IN {} AND 1 )', 'INSERT INTO identifier {}', 'INSERT INTO identifier ( identifier ) {}',
+          'INSERT INTO identifier VALUES {}', '{}', 'SELECT * FROM {} identifier']
+HELD = ['1', 'VALUES ( 1 )', 'SELECT * FROM identifier', 'NOT 1', 'EXISTS ( VALUES ( 1 ) )', '- 1', 'identifier', 'VALUES ( 1 ) ORDER BY 1']
+BEHIND = ['', '', '* 1', '+ 1', '= 1', 'AND 1', 'OR 1', '+ INTERVAL digit_text DAY', 'UNION VALUES ( 1 )', 'INTERSECT VALUES ( 1 )', 'EXCEPT VALUES ( 1 )',
+          'ORDER BY 1', 'LIMIT 1', ', 1']
+
+
+LEAST_NESTED, MOST_NESTED = 2000, 40000
+
+
+def nested(rng):
+    """Parentheses in parentheses, which may be a sentence or not."""
+    text = rng.choice(HELD)
+    for _ in range(rng.randint(1, 4)):
+        text = f'( {text} ) {rng.choice(BEHIND)}'
+    return rng.choice(PLACES).format(text).split()
+
+
+class Compared:
+    """What was found on the token lists so far."""
+
+    def __init__(self, g, literal):
+        self.g = g
+        self.literal = literal
+        self.lists = self.sentences = self.wrong = 0
+        self.met = set()
+
+    def compare(self, tokens):
+        want = self.literal.fault(tokens)
+        scale = scale_fault(self.g, tokens, len(tokens) if want is None else want + 1)
+        if scale is not None and (want is None or scale < want):
+            want = scale
+        used = set()
+        items, at, _ = exact(self.g, tokens, used)
+        got = None if items is not None else at
+        self.lists += 1
+        if items is not None:
+            self.sentences += 1
+            self.met |= used
+        if got != want:
+            self.wrong += 1
+            if self.wrong <= 10:
+                print('want', want, 'got', got, ' '.join(self.g.classes[t] for t in tokens))
+
+    def missing(self):
+        """The productions of the table that no sentence met, but for those that refuse a word."""
+        return [text for p, text in enumerate(self.g.texts) if p and p not in self.met and ' !' not in text]
+
+    def told(self):
+        missing = self.missing()
+        print(f'{self.lists} token lists, {self.sentences} sentences, {self.wrong} differ; {len(missing)} productions not met')
+        for text in missing:
+            print('  ' + text)
+        return 1 if self.wrong or missing else 0
+
+
 def main():
     count = int(sys.argv[1]) if len(sys.argv) > 1 else 2000
     rng = random.Random(int(sys.argv[2]) if len(sys.argv) > 2 else 1)
@@ -242,8 +332,12 @@ def main():
     literal = Literal(open(os.path.join(HERE, 'literal.ebnf')).read(), g.number, len(g.classes))
     common = [g.number[w] for w in ['(', ')', ',', '+', '-', '*', 'SELECT', 'VALUES', 'FROM', 'UNION', 'ORDER', 'BY', 'LIMIT', 'IN', 'NOT',
               'INTERVAL', 'identifier', '1', 'digit_text', 'AND', 'OR', 'DEFAULT', 'EXISTS', 'INTERSECT', '.', '=', 'AS', 'LEVEL']]
-    wrong = sentences = 0
-    marks = set()
+    compared = Compared(g, literal)
+    ways = literal.ways()
+    for rule, alternatives in literal.rules.items():
+        for k in range(len(alternatives)):
+            for spare in (0, 4, 8, 24):
+                compared.compare(literal.sentence_by(ways, rule, k, spare, rng))
     for _ in range(count):
         if rng.random() < 0.5:
             tokens = literal.sentence('start', rng.randint(1, 90), rng)
@@ -260,21 +354,12 @@ def main():
                 tokens[k] = c
             elif k < len(tokens):
                 del tokens[k:k + 1]
-        want = literal.fault(tokens)
-        scale = scale_fault(g, tokens, len(tokens) if want is None else want + 1)
-        if scale is not None and (want is None or scale < want):
-            want = scale
-        items, at, refused = exact(g, tokens)
-        got = None if items is not None else at
-        if items is not None:
-            sentences += 1
-            marks |= {item for item in items if isinstance(item, str)}
-        if got != want:
-            wrong += 1
-            if wrong <= 10:
-                print('want', want, 'got', got, ' '.join(g.classes[t] for t in tokens))
-    print(f'{count} token lists, {sentences} sentences, {wrong} differ; steps not met: {sorted(set(g.marks) - marks)}')
-    return 1 if wrong else 0
+        compared.compare(tokens)
+    for k in range(MOST_NESTED):
+        if k >= LEAST_NESTED and compared.missing() == []:
+            break
+        compared.compare([g.number[word] for word in nested(rng)])
+    return compared.told()
 
 
 if __name__ == "__main__":

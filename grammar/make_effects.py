@@ -146,12 +146,12 @@ def main():
     kinds = re.findall(r'^abbrev pub (\w+) : ℕ$', text, re.M)
     made = effects_file(g, Typing(g, effects_of_marks(text)), kinds)
     path = os.path.join(CRATES, 'hs_parser', 'proofs', 'RuleEffects.antt')
+    if os.path.exists(path) and re.sub(r'\s', '', open(path).read()) == re.sub(r'\s', '', made):
+        return 0
     if '--check' in sys.argv:
-        if not os.path.exists(path) or re.sub(r'\s', '', open(path).read()) != re.sub(r'\s', '', made):
-            print('hs_parser/proofs/RuleEffects.antt is not what the grammar makes')
-            return 1
-    else:
-        open(path, 'w').write(made)
+        print('hs_parser/proofs/RuleEffects.antt is not what the grammar makes')
+        return 1
+    open(path, 'w').write(made)
     return 0
 
 

@@ -9,7 +9,9 @@ import re
 import sys
 
 from make_table import CRATES, Grammar, HERE, MARK_KINDS, SYMBOL_NAMES
+from numbering import PATH
 
+ALONE = 256  # the number of the first rule that the table hasn't
 RESERVED = {'where', 'as', 'in', 'data', 'use', 'open', 'do', 'let', 'mod'}
 MARK_ALIASES = {'LeafMark': 'leaf', 'ExpressionMark': 'e', 'FunctionMark': 'f', 'QueryMark': 'q', 'ChangeMark': 'c',
                 'DefinitionMark': 'd', 'SessionMark': 's'}
@@ -27,8 +29,11 @@ class Literal:
         rule = None
         for line in lines:
             line = line.strip()
-            if line.startswith('## ') or line.startswith('##'):
-                self.blocks.append(('comment', line[2:].strip() if not line.startswith('##  ') else line[2:]))
+            if line.startswith('##'):
+                self.blocks.append(('line', line[3:]))
+                continue
+            if line.startswith('#-'):
+                self.blocks.append(('remark', line[3:]))
                 continue
             if line == '' or line.startswith('#'):
                 continue
@@ -45,9 +50,8 @@ class Literal:
                 else:
                     alternatives[-1].append(word)
         self.number = dict(g.rule_number)
-        for name in self.order:
-            if name not in self.number:
-                self.number[name] = len(self.number)
+        alone = g.numbers.ordered('rules of the literal grammar alone', [name for name in self.order if name not in g.rules])
+        self.number.update({name: ALONE + k for k, name in enumerate(alone)})
         self.productions = []
         self.refusals = []
         self.of = {}
@@ -72,6 +76,8 @@ class Literal:
         if word in g.number:
             return ('word', g.number[word])
         if word in g.named:
+            if word not in g.marks:
+                raise SystemExit(f'no production of the table has {word}')
             return ('mark', g.marks.index(word))
         assert word in self.order, word
         return ('rule', word)
@@ -122,16 +128,19 @@ def names_file(g, literal):
     return '\n'.join(out) + '\n'
 
 
-def words_file(g):
+def words_file(g, literal):
     words = sorted(c for c in g.classes[1:] if re.fullmatch(r'[A-Z_]+', c))
     signs = [c for c in g.classes[1:] if c in SYMBOL_NAMES]
-    names = [quoted(name_of(c)) for c in words + signs]
+    may_be = [g.classes[parts[0][1]] for parts in (literal.productions[p][1] for p in literal.of['name'])]
+    names = [quoted(name_of(c)) for c in words + signs] + ['identifier']
     out = ['-- The words and the symbols as they are spelled, words in capitals, with their classes, made by grammar/make_literal.py.',
            'use Rattle.std.specs.Prelude.{ℕ, List, [], ◌∷◌, codes}',
            'use Rattle.hs_syntax.specs.Names.{' + ', '.join(names) + '}']
     for name, spelled in (('words', words), ('signs', signs)):
         out += ['', f'abbrev pub {name} : List (List ℕ × ℕ)', f'{name} =']
         out += [f'    (codes "{c}", {quoted(name_of(c))}) ∷' for c in spelled] + ['    []']
+    out += ['', '-- the classes of the words that may be names, and that of the words that are none of the grammar\'s', 'unfoldable pub name_classes : List ℕ',
+            'name_classes = ' + ' ∷ '.join([quoted(name_of(c)) for c in may_be] + ['[]'])]
     return '\n'.join(out) + '\n'
 
 
@@ -193,10 +202,17 @@ def used_names(g, literal):
     return used
 
 
+def lines_file(literal):
+    out = ['# The grammar of the statements by tokens alone, made by make_literal.py of the lines beside the rules of `literal.g`, whose',
+           '# first lines say how to read it. A word in capitals is that word, and other names are rules or classes of tokens.']
+    return '\n'.join(out + [block[1] for block in literal.blocks if block[0] == 'line']) + '\n'
+
+
 def literal_file(g, literal):
     out = ['-- The grammar of the statements as one reads it, with the steps that build their trees, made by grammar/make_literal.py from',
-           '-- grammar/literal.g. In the lines above the rules, which say the same by tokens alone, `[ ]` may be left out and `{ }` may be',
-           '-- repeated or left out; what is in them has rules of its own, behind the rule that it stands in.',
+           '-- grammar/literal.g. In the lines above the rules, which say the same by tokens alone, `[ ]` may be left out, `{ }` may be',
+           '-- repeated or left out, a symbol stands in quotes, and w(a..b) is a whole number from a to b; what is in brackets has rules of',
+           '-- its own, behind the rule that it stands in.',
            'use Rattle.std.specs.Prelude.{◌≡◌, ℕ, ◌<◌, ◌≤◌, List, [], ◌∷◌, ◌++◌, length, slice_index_or}',
            'use Rattle.hs_grammar.specs.declared.types.Item.{Item}',
            'use Rattle.hs_grammar.specs.declared.types.Item.TheVariants as item',
@@ -213,7 +229,7 @@ def literal_file(g, literal):
            'abbrev pub to : ℕ → List Part → Production', 'to n s = record { from = n; parts = s }', '',
            'abbrev pub productions : List Production', 'productions =']
     for block in literal.blocks:
-        if block[0] == 'comment':
+        if block[0] != 'rule':
             out.append('    -- ' + block[1])
         else:
             for p in literal.of[block[1]]:
@@ -285,6 +301,25 @@ OTHERS = {
 }
 
 
+def by_number(literal):
+    """The rules in the order of their numbers, each in a list of its own, and lists of None for numbers that no rule has."""
+    names = {n: name for name, n in literal.number.items()}
+    table = [n for n in names if n < ALONE]
+    gap = [None] * (ALONE - len(table))
+    rows = [gap[k:k + 20] for k in range(0, len(gap), 20)]
+    if len(rows[-1]) == 1:
+        rows[-2:] = [rows[-2] + rows[-1]]
+    return [[names[n]] for n in sorted(table)] + rows + [[names[n]] for n in sorted(names) if n >= ALONE]
+
+
+def firsts_file(literal):
+    out = ['-- By rule of the literal grammar, the place of its first production, made by grammar/make_literal.py.',
+           'use Rattle.std.specs.Prelude.{ℕ, List, [], ◌∷◌}', '', 'abbrev pub firsts : List ℕ', 'firsts =']
+    places = [literal.of.get(name, [0])[0] if name else 0 for names in by_number(literal) for name in names]
+    out += ['    ' + ''.join(f'{n} ∷ ' for n in places[k:k + 20]) for k in range(0, len(places), 20)]
+    return '\n'.join(out + ['    []']) + '\n'
+
+
 class Search:
     """Looks for scripts that show that what a production derives is written by the literal grammar."""
 
@@ -303,7 +338,7 @@ class Search:
         return tuple(self.literal.part(word) for word in text.split())
 
     def steps(self, parts, wanted):
-        """Steps from the parts to those that are wanted, as places and productions."""
+        """Steps from the parts to those that are wanted, as places and alternatives of the rules there."""
         for depth in range(0, 26):
             found = self.search(list(parts), list(wanted), 0, depth)
             if found is not None:
@@ -323,14 +358,14 @@ class Search:
                 return found
         if parts[at][0] != 'rule' or depth == 0:
             return None
-        for p in self.literal.of[parts[at][1]]:
+        for k, p in enumerate(self.literal.of[parts[at][1]]):
             right = list(self.literal.productions[p][1])
             new = parts[:at] + right + parts[at + 1:]
             if right and right[0][0] != 'rule' and (at >= len(wanted) or right[0] != wanted[at]):
                 continue
             found = self.search(new, wanted, at, depth - 1)
             if found is not None:
-                return [(at, p)] + found
+                return [(at, k)] + found
         return None
 
     def completed(self, parts, front, at, depth):
@@ -347,13 +382,13 @@ class Search:
                 return found
         if parts[at][0] != 'rule' or depth == 0:
             return None
-        for p in self.literal.of[parts[at][1]]:
+        for k, p in enumerate(self.literal.of[parts[at][1]]):
             right = list(self.literal.productions[p][1])
             if right and right[0][0] != 'rule' and right[0] != front[at]:
                 continue
             found = self.completed(parts[:at] + right + parts[at + 1:], front, at, depth - 1)
             if found is not None:
-                return [(at, p)] + found[0], found[1]
+                return [(at, k)] + found[0], found[1]
         return None
 
     def completion(self, rule):
@@ -437,7 +472,7 @@ def plain_parts(parts, literal):
 
 
 def antt_steps(steps):
-    return '(' + ' ∷ '.join([f'step {at} {p}' for at, p in steps] + ['[]']) + ')'
+    return '(' + ' ∷ '.join([f'step {at} {k}' for at, k in steps] + ['[]']) + ')'
 
 
 def antt_script(tree, literal):
@@ -450,10 +485,9 @@ def antt_script(tree, literal):
     return 'no'
 
 
-def written(g, p, name):
+def written(g, p):
     """A production of the table as it is written in `sql.g`."""
-    first = next(k for k, (rule, _) in enumerate(g.productions) if rule == name)
-    return f'  {name} : ' + ' '.join(g.rules[name][p - first])
+    return '  ' + g.texts[p]
 
 
 def scripts_file(g, literal):
@@ -487,11 +521,11 @@ def scripts_file(g, literal):
     refused = [0] + [search.refused_as(name, symbols) for name, symbols in g.productions[1:]]
     out += ['    []', '', '-- by production that refuses a word, which of the literal ones that is', 'abbrev pub refused_as : List ℕ',
             'refused_as = ' + ' ∷ '.join([str(k) for k in refused] + ['[]'])]
+    by_hand.sort(key=lambda x: (x[1], all(s[0] == 'Mark' for s in x[2])))
+    if [name for _, name, _ in by_hand] != ['decimal', 'scale', 'scale']:
+        raise SystemExit('\n'.join(['only decimal and scale may be without a script, but these are:'] + [written(g, p) for p, _, _ in by_hand]))
     out += ['', '-- the productions that are read by hand', 'abbrev pub by_hand : List ℕ',
             'by_hand = ' + ' ∷ '.join([str(p) for p, _, _ in by_hand] + ['[]'])]
-    if [name for _, name, _ in by_hand] != ['decimal', 'scale', 'scale']:
-        raise SystemExit('\n'.join(['only decimal and scale may be without a script, but these are:'] + [written(g, p, name) for p, name, _ in by_hand]))
-    assert by_hand[2][2] == [s for s in by_hand[2][2] if s[0] == 'Mark']
     for name, (p, _, _) in zip(['in_parentheses', 'some_scale', 'no_scale'], by_hand):
         out += [f'abbrev pub {name} : ℕ', f'{name} = {p}']
     alone, with_scale, _ = literal.of['decimal']
@@ -501,7 +535,8 @@ def scripts_file(g, literal):
 
 
 # ---- what the rules of the literal grammar do to the table's stack, where that is more than to put one rule away: from the
-# symbols at the left to one of the ways on, each the symbols that are left then, or a state and nothing left.
+# symbols at the left to one of the ways on, each the symbols that are left then, or a state and nothing left. Steps in front, with a
+# `>` behind them, are owed: the literal grammar has written them and the table hasn't yet.
 
 def claims_of():
     claims = {}
@@ -510,34 +545,38 @@ def claims_of():
         claims.setdefault(rule, []).append((entry, list(exits)))
 
     for entry, first, tail in [('inner', 'first1', '@0'), ('in', 'in_first1', 'in_list')]:
+        subquery = '#body_subquery > ' + first
         levels = ['product_more', 'sum_more', 'compared', 'and_more', 'or_more']
         rest = [' '.join(levels[k:] + [tail]) for k in range(6)]
         for rule, k in [('primary', 0), ('unary', 0), ('product', 1), ('sum', 2), ('negation', 3), ('conjunction', 4), ('e', 5)]:
-            say(rule, entry, rest[k], first)
+            say(rule, entry, rest[k], subquery)
         for rule, k in [('intervals', 0), ('product_more', 1), ('sum_more', 2), ('compared', 3), ('and_more', 4), ('or_more', 5)]:
-            say(rule, first, rest[k], first)
+            say(rule, subquery, rest[k], subquery)
     for entry, first, tail in [('inner', 'first1', 'inner_tail'), ('in', 'in_first1', '#query ordering limiting ) #in_query')]:
-        say('core', entry, 'term_more body_more ' + tail, first)
-        say('term', entry, 'body_more ' + tail, first)
-        say('body', entry, tail, first)
-        say('term_more', first, 'body_more ' + tail, first)
-        say('body_more', first, tail, first)
-    for first in ['inner_tail', 'first1']:
-        say('ordered', first, '@2')
-    say('ordered', 'plain_tuples', '')
-    say('query', 'in', ') #in_query', 'in_first1')
-    say('ordering', 'in_first1', 'limiting ) #in_query', 'in_first1')
-    say('limiting', 'in_first1', ') #in_query', 'in_first1')
-    say('es', 'in', ') #in_list', 'in_first1')
-    say('es_more', 'in_first1', ') #in_list', 'in_first1')
+        body = '#bracket_body > ' + first
+        say('core', entry, 'term_more body_more ' + tail, body)
+        say('term', entry, 'body_more ' + tail, body)
+        say('body', entry, tail, body)
+        say('term_more', body, 'body_more ' + tail, body)
+        say('body_more', body, tail, body)
+    say('ordered', '#query > inner_tail', '@2')
+    say('ordered', '#bracket_body #query > first1', '@2')
+    say('ordered', '#tuples_body #query > plain_tuples', '#insert_query')
+    query = '#bracket_body #query > in_first1'
+    say('query', 'in', ') #in_query', query)
+    say('ordering', query, 'limiting ) #in_query', query)
+    say('limiting', query, ') #in_query', query)
+    listed = '#body_subquery #first > in_first1'
+    say('es', 'in', ') #in_list', listed)
+    say('es_more', listed, ') #in_list', listed)
     for entry in ['source', 'values_or_query']:
         say('contents', entry, '')
-        say('inserted_query', entry, '')
-    say('tuples', 'plain_tuple', '')
+        say('inserted_query', entry, '#insert_query')
+    say('tuples', 'plain_tuple', 'plain_tuples', 'mixed_tuples')
     say('tuple', 'plain_tuple', 'plain_tuples', 'mixed_tuples')
     say('tuple', '( #tuple mixed_value mixed_more', 'mixed_tuples')
-    say('tuples_more', 'plain_tuples', '')
-    say('tuples_more', 'mixed_tuples', '')
+    say('tuples_more', 'plain_tuples', 'plain_tuples', 'mixed_tuples')
+    say('tuples_more', 'mixed_tuples', 'mixed_tuples')
     say('tuple_value', 'plain_value', 'plain_more', 'mixed_more')
     say('tuple_value', 'mixed_value', '')
     say('values_more', 'plain_more', 'plain_more', 'mixed_more')
@@ -546,84 +585,97 @@ def claims_of():
     say('row_of_values', 'plain_tuple', 'plain_tuples')
     say('rows_of_values_more', 'plain_tuples', 'plain_tuples')
     say('row_of_values_more', 'plain_more', 'plain_more')
-    say('behind_rows', 'plain_tuples', '')
+    say('behind_rows', '#tuples_body > plain_tuples', '#insert_query')
     say('table_definition', 'name #memory elements', '')
     return claims
 
 
+# The two spots at which the literal grammar reads some tokens twice, and what they are meant as, as in specs/Meant.antt.
+SPOTS = [('#body_subquery ) #bracket', '#bracket_body ) #body_subquery'),
+         ('#body_subquery #first ) #in_list', '#bracket_body #query ) #in_query')]
+
+
 class Runs:
-    """Looks for runs that show that the table's grammar derives what a literal production writes."""
+    """Looks for runs that show that the table's grammar derives what a literal production writes, steps included."""
 
     def __init__(self, g, literal):
         self.g = g
         self.literal = literal
-        self.names = list(g.rules)
         self.of = {}
         for p, (rule, symbols) in enumerate(g.productions):
             if p:
                 self.of.setdefault(g.rule_number[rule], []).append((p, tuple(symbols)))
+        self.spots = [tuple(self.symbols(text) for text in spot) for spot in SPOTS]
         self.claims = {}
         for name in literal.order:
             found = []
             if name in g.rules:
-                found.append((((('Rule', g.rule_number[name]),)), [((), None)]))
+                found.append(((), (('Rule', g.rule_number[name]),), [((), (), None)]))
             for entry, exits in claims_of().get(name, []):
-                found.append((self.symbols(entry), [self.exit_of(x) for x in exits]))
+                owed, symbols = self.owed(entry)
+                found.append((owed, symbols, [self.exit_of(x) for x in exits]))
             self.claims[name] = found
 
     def symbols(self, text):
         return tuple(self.g.symbol(word) for word in text.split())
 
-    def exit_of(self, text):
-        return self.settled(self.symbols(text), None)
+    def owed(self, text):
+        front, mark, rest = text.rpartition('>')
+        return self.symbols(front), self.symbols(rest)
 
-    def settled(self, stack, state):
+    def exit_of(self, text):
+        owed, symbols = self.owed(text)
+        if symbols and symbols[0][0] == 'Keep':
+            return owed, symbols[1:], symbols[0][1]
+        return owed, symbols, None
+
+    def settled(self, owed, stack, state):
+        """Where the table has written what it can of what is owed."""
         while stack:
             kind = stack[0][0]
-            if kind == 'Mark':
-                stack = stack[1:]
-            elif kind == 'Keep':
+            if kind == 'Keep':
                 state = stack[0][1]
                 stack = stack[1:]
             elif kind == 'Turn' and state is not None:
-                return (('Rule', stack[0][1] + min(state, 2)),) + stack[1:], state
+                return owed, (('Rule', stack[0][1] + min(state, 2)),) + stack[1:], state
+            elif kind in ('Mark', 'Take') and owed and owed[0] == stack[0]:
+                owed = owed[1:]
+                stack = stack[1:]
             else:
                 break
-        return stack, state
+        return owed, stack, state
 
-    def find(self, exits, parts, stack, state):
+    def find(self, exits, parts, at):
         for depth in range(0, 12):
-            found = self.run(exits, parts, stack, state, depth, depth)
+            found = self.run(exits, parts, at, depth, depth)
             if found is not None:
                 return found
         return None
 
-    def run(self, exits, parts, stack, state, depth, most):
+    def run(self, exits, parts, at, depth, most):
+        owed, stack, state = at
+        if parts and parts[0][0] in ('word', 'mark'):
+            item = ('Take' if parts[0][0] == 'word' else 'Mark', parts[0][1])
+            found = self.run(exits, parts[1:], self.settled(owed + (item,), stack, state), most, most)
+            return None if found is None else ('take', found)
         if not parts:
-            for k, (left, known) in enumerate(exits):
-                if left == stack and (known is None or known == state):
+            for k, (owes, left, known) in enumerate(exits):
+                if (owes, left) == (owed, stack) and (known is None or known == state):
                     return ('finish', k)
-        elif parts[0][0] == 'word':
-            if stack and stack[0] == ('Take', parts[0][1]):
-                new, now = self.settled(stack[1:], state)
-                found = self.run(exits, parts[1:], new, now, most, most)
-                return None if found is None else ('take', found)
         elif parts[0][0] == 'span':
-            if stack and stack[0][0] == 'TakeKeep' and stack[0][1] <= parts[0][1] and parts[0][2] <= stack[0][2]:
-                new, now = self.settled(stack[1:], None)
-                found = self.run(exits, parts[1:], new, now, most, most)
+            if not owed and stack and stack[0][0] == 'TakeKeep' and stack[0][1] <= parts[0][1] and parts[0][2] <= stack[0][2]:
+                found = self.run(exits, parts[1:], self.settled((), stack[1:], None), most, most)
                 return None if found is None else ('take', found)
         elif parts[0][0] == 'scaled':
             return None
         else:
-            for k, (entry, ways) in enumerate(self.claims[parts[0][1]]):
-                if stack[:len(entry)] != entry:
+            for k, (owes, entry, ways) in enumerate(self.claims[parts[0][1]]):
+                if owes != owed or stack[:len(entry)] != entry:
                     continue
                 rest = stack[len(entry):]
                 branches = []
-                for left, known in ways:
-                    new, now = self.settled(left + rest, known)
-                    branch = self.run(exits, parts[1:], new, now, most, most)
+                for left_owed, left, known in ways:
+                    branch = self.run(exits, parts[1:], self.settled(left_owed, left + rest, known), most, most)
                     if branch is None:
                         break
                     branches.append(branch)
@@ -632,31 +684,34 @@ class Runs:
                     for branch in reversed(branches):
                         tree = ('both', branch, tree)
                     return ('claimed', k, tree)
+        for k, (read, meant) in enumerate(self.spots):
+            if owed == read:
+                found = self.run(exits, parts, self.settled(meant, stack, state), depth, most)
+                if found is not None:
+                    return ('turn', k, found)
         if depth == 0 or not stack or stack[0][0] != 'Rule':
             return None
         for p, right in self.of[stack[0][1]]:
-            if parts and parts[0][0] == 'word' and p not in self.g.rows[stack[0][1]]:
+            if owed and owed[0][0] == 'Take' and p not in self.g.rows[stack[0][1]]:
                 continue
-            new, now = self.settled(right + stack[1:], state)
-            if new and new[0][0] == 'Take' and not (parts and (parts[0][0] == 'rule' or parts[0] == ('word', new[0][1]))):
+            new = self.settled(owed, right + stack[1:], state)
+            if new[1] and (new[1][0][0] == 'Refuse' or new[0] and new[1][0][0] in ('Take', 'Mark', 'TakeKeep') and new[0] not in [r for r, _ in self.spots]):
                 continue
-            if new and new[0][0] == 'Refuse':
-                continue
-            found = self.run(exits, parts, new, now, depth - 1, most)
+            found = self.run(exits, parts, new, depth - 1, most)
             if found is not None:
                 return ('by', p, found)
         return None
 
 
-def refusing(search, stack, state, first, last, depth):
+def refusing(search, at, first, last, depth):
     """The productions by which a refused word of these classes comes first."""
-    if stack and stack[0][0] == 'Refuse':
+    owed, stack, state = at
+    if stack and not owed and stack[0][0] == 'Refuse':
         return ('finish', 0) if stack[0][1] <= first and last <= stack[0][2] else None
     if depth == 0 or not stack or stack[0][0] != 'Rule':
         return None
     for p, right in search.of[stack[0][1]]:
-        new, now = search.settled(right + stack[1:], state)
-        found = refusing(search, new, now, first, last, depth - 1)
+        found = refusing(search, search.settled(owed, right + stack[1:], state), first, last, depth - 1)
         if found is not None:
             return ('by', p, found)
     return None
@@ -666,6 +721,19 @@ def antt_symbols(symbols):
     return '(' + ' ∷ '.join([f'S.{x[0]} ' + ' '.join(str(k) for k in x[1:]) for x in symbols] + ['[]']) + ')'
 
 
+def antt_marks(owed):
+    assert all(x[0] == 'Mark' for x in owed)
+    return '(' + ' ∷ '.join([str(x[1]) for x in owed] + ['[]']) + ')'
+
+
+def antt_exit(way):
+    owed, left, known = way
+    if known is not None:
+        assert not owed and not left
+        return f'to_state {known}'
+    return f'owing {antt_marks(owed)} {antt_symbols(left)}' if owed else f'to_any {antt_symbols(left)}'
+
+
 def antt_run(tree):
     if tree[0] == 'finish':
         return f'finish {tree[1]}'
@@ -673,11 +741,19 @@ def antt_run(tree):
         return f'by {tree[1]} ({antt_run(tree[2])})'
     if tree[0] == 'take':
         return f'take ({antt_run(tree[1])})'
-    if tree[0] == 'claimed':
-        return f'claimed {tree[1]} ({antt_run(tree[2])})'
+    if tree[0] in ('claimed', 'turn'):
+        return f'{tree[0]} {tree[1]} ({antt_run(tree[2])})'
     if tree[0] == 'both':
         return f'both ({antt_run(tree[1])}) ({antt_run(tree[2])})'
     return 'no'
+
+
+def written_part(part, g):
+    if part[0] == 'rule':
+        return part[1]
+    if part[0] in ('word', 'mark'):
+        return (g.classes if part[0] == 'word' else g.marks)[part[1]]
+    return '<p,s>' if part[0] == 'scaled' else f'<{g.classes[part[1]]}..{g.classes[part[2]]}>'
 
 
 def runs_file(g, literal):
@@ -686,23 +762,23 @@ def runs_file(g, literal):
     out = ['-- How the table derives what each production of the literal grammar writes, made by grammar/make_literal.py.',
            'use Rattle.std.specs.Prelude.{List, [], ◌∷◌}',
            'use Rattle.hs_grammar.specs.declared.types.Symbol.TheVariants as S',
-           'use Rattle.hs_syntax.proofs.Runs.{to_any, to_state, Claim, claim, Run, finish, by, take, claimed, both, no}', '',
-           '-- by rule, from which symbols of the table it leads where', 'abbrev pub claims : List (List Claim)', 'claims =']
-    numbers = {n: name for name, n in literal.number.items()}
-    for n in range(len(numbers)):
-        found = search.claims.get(numbers[n], [])
+           'use Rattle.hs_syntax.proofs.Runs.{to_any, owing, to_state, Claim, claim, Run, finish, by, take, turn, claimed, both, no}', '',
+           '-- by rule, from which steps that are owed and which symbols of the table it leads where', 'abbrev pub claims : List (List Claim)', 'claims =']
+    for names in by_number(literal):
+        if len(names) != 1:
+            out.append('    ' + '[] ∷ ' * len(names))
+            continue
+        found = search.claims.get(names[0], [])
         lines = []
-        for entry, exits in found:
-            assert all(known is None or left == () for left, known in exits)
-            ways = [f'to_any {antt_symbols(left)}' if known is None else f'to_state {known}' for left, known in exits]
-            lines.append(f'claim {antt_symbols(entry)} (' + ' ∷ '.join(ways + ['[]']) + ')')
+        for owed, entry, exits in found:
+            ways = [f'claim {antt_marks(owed)} {antt_symbols(entry)} (' + ' ∷ '.join([antt_exit(x) for x in exits] + ['[]']) + ')']
+            lines += ways
         out.append('    (' + ' ∷ '.join(lines + ['[]']) + ') ∷')
     out += ['    []', '', '-- by production, a run for each claim of its rule', 'abbrev pub all_runs : List (List Run)', 'all_runs =']
     for p, (name, parts) in enumerate(literal.productions):
         trees = []
-        for entry, exits in search.claims[name]:
-            new, now = search.settled(entry, None)
-            tree = search.find(exits, [part for part in parts if part[0] != 'mark'], new, now)
+        for owed, entry, exits in search.claims[name]:
+            tree = search.find(exits, parts, search.settled(owed, entry, None))
             if tree is None:
                 left_out.append((p, name, parts, entry))
                 tree = ('no',)
@@ -711,7 +787,7 @@ def runs_file(g, literal):
     out += ['    []', '', '-- by word that is not offered, how each claim of its rule comes to it', 'abbrev pub refusal_runs : List (List Run)',
             'refusal_runs =']
     for name, first, last in literal.refusals:
-        trees = [refusing(search, *search.settled(entry, None), first, last, 3) for entry, _ in search.claims[name]]
+        trees = [refusing(search, search.settled(owed, entry, None), first, last, 3) for owed, entry, _ in search.claims[name]]
         assert None not in trees, name
         out.append('    (' + ' ∷ '.join([antt_run(tree) for tree in trees] + ['[]']) + ') ∷')
     out += ['    []']
@@ -723,27 +799,33 @@ def main():
     g.work_out()
     literal = Literal(g, open(os.path.join(HERE, 'literal.g')).read())
     scripts, by_hand = scripts_file(g, literal)
-    files = {'hs_syntax/specs/Names.antt': names_file(g, literal), 'hs_syntax/specs/Words.antt': words_file(g),
+    files = {'hs_syntax/specs/Names.antt': names_file(g, literal), 'hs_syntax/specs/Words.antt': words_file(g, literal),
              'hs_syntax/specs/Marks.antt': mark_names_file(g), 'hs_syntax/specs/Literal.antt': literal_file(g, literal),
-             'hs_syntax/proofs/Scripts.antt': scripts, 'hs_parser/specs/Marks.antt': marks_file(g)}
+             'hs_syntax/proofs/Firsts.antt': firsts_file(literal), 'hs_syntax/proofs/Scripts.antt': scripts, PATH: g.numbers.text(), 'hs_parser/specs/Marks.antt': marks_file(g)}
     runs, left_out = runs_file(g, literal)
     files['hs_syntax/proofs/LiteralRuns.antt'] = runs
+    files[os.path.join(HERE, 'literal.ebnf')] = lines_file(literal)
     print(f'{len(literal.productions)} literal productions; without a script: {", ".join(name for _, name, _ in by_hand)}; '
           f'without a run: {", ".join(x[1] for x in left_out)}')
+    if [(name, ('scaled',) in parts) for _, name, parts, _ in left_out] != [('decimal', True)]:
+        raise SystemExit('only decimal may be without a run, but these are:\n' + '\n'.join(
+            f'  {name} : {" ".join(written_part(part, g) for part in parts)}' for _, name, parts, _ in left_out))
+
     def bare(text):
         return re.sub(r'\s', '', text)
 
     stale = []
     for name, text in files.items():
         path = os.path.join(CRATES, name)
+        if os.path.exists(path) and bare(open(path).read()) == bare(text):
+            continue
         if '--check' in sys.argv:
-            if not os.path.exists(path) or bare(open(path).read()) != bare(text):
-                stale.append(name)
+            stale.append(name)
         else:
             os.makedirs(os.path.dirname(path), exist_ok=True)
             open(path, 'w').write(text)
     for name in stale:
-        print(f'{name} is not what the grammars make')
+        print(f'{os.path.relpath(os.path.join(CRATES, name))} is not what the grammars make')
     return 1 if stale else 0
 
 

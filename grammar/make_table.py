@@ -1,7 +1,8 @@
 #!/usr/bin/env python3
 """Makes the parser's table from `sql.g`.
 
-    python3 make_table.py            writes the files below crates/hs_syntax and crates/hs_parser
+    python3 make_table.py            writes the files below crates/hs_syntax and crates/hs_parser, and the small tables of the tests of
+                                     crates/hs_grammar, each of the grammar at its file's head
     python3 make_table.py --check    says whether they are what it would write, and ends with 1 if not
 
 The form of the grammar is told at the top of `sql.g`. The table has for each rule and each column the production with
@@ -13,9 +14,12 @@ import os
 import re
 import sys
 
+from numbering import PATH, Numbers
+
 HERE = os.path.dirname(os.path.abspath(__file__))
 CRATES = os.environ.get('OUT') or os.path.join(HERE, '..', 'crates')
 COLUMNS = 256
+VIEWED = COLUMNS - 2  # the column of the first view; the others stand before it
 STATES = 3
 MARK_KINDS = {'ChangeMark', 'DefinitionMark', 'ExpressionMark', 'FunctionMark', 'LeafMark', 'QueryMark', 'SessionMark'}
 SYMBOL_NAMES = {
@@ -26,24 +30,29 @@ SYMBOL_NAMES = {
 
 
 class Grammar:
-    def __init__(self, text):
+    """A grammar with the numbers that are kept, or, where it is a small one for a test, in the order of its text."""
+
+    def __init__(self, text, is_small=False):
         self.classes = ['END']
         self.views = []
         self.named = {}
         self.rules = {}
         self.read(text)
+        self.numbers = Numbers(None) if is_small else Numbers()
         self.number = {name: k for k, name in enumerate(self.classes)}
+        self.rules = {name: self.rules[name] for name in self.numbers.ordered('rules of the table', self.rules)}
         self.rule_number = {name: k for k, name in enumerate(self.rules)}
-        self.marks = []
-        self.productions = [(None, [])]
-        for rule, alternatives in self.rules.items():
-            for words in alternatives:
-                self.productions.append((rule, [self.symbol(word) for word in words]))
-        first = len(self.classes)
+        written = {f'{rule} : {" ".join(words)}'.strip(): (rule, words) for rule, alternatives in self.rules.items() for words in alternatives}
+        used = [word for _, words in written.values() for word in words if word.startswith('#') and word not in self.number]
+        for word in used:
+            assert is_small or word in self.named, word
+        self.marks = self.numbers.ordered('steps', dict.fromkeys(used))
+        self.texts = [None] + self.numbers.ordered('productions of the table', written)
+        self.productions = [(None, [])] + [(written[text][0], [self.symbol(word) for word in written[text][1]]) for text in self.texts[1:]]
         self.seen = {}
         for k, (name, before) in enumerate(self.views):
-            self.seen[self.number[name]] = (self.number[before], first + k)
-        self.column_count = first + len(self.views)
+            self.seen[self.number[name]] = (self.number[before], len(self.classes) + k if is_small else VIEWED - k)
+        self.column_count = len(self.classes) + len(self.views)
         assert self.column_count < COLUMNS
         assert len(self.rules) <= 256 and len(self.marks) <= 256
 
@@ -79,8 +88,8 @@ class Grammar:
                         self.rules[rule][-1].append(word)
 
     def ends_of(self, text):
-        names = text.split('..')
-        return self.number[names[0]], self.number[names[-1]]
+        first, _, last = text.partition('..')
+        return self.number[first], self.number[last or (first if '..' not in text else self.classes[-1])]
 
     def symbol(self, word):
         if word in self.number:
@@ -88,14 +97,15 @@ class Grammar:
         if word in self.rules:
             return 'Rule', self.rule_number[word]
         if word.startswith('#'):
-            assert word in self.named, word
-            if word not in self.marks:
-                self.marks.append(word)
+            assert word in self.marks, word
             return 'Mark', self.marks.index(word)
         if word.startswith('@'):
             return 'Keep', int(word[1:])
         if word.startswith('?'):
-            return 'Turn', self.rule_number[word[1:]]
+            first = self.rule_number[word[1:]]
+            if [self.rule_number.get(f'{word[1:-1]}{k}') for k in range(STATES)] != [first + k for k in range(STATES)]:
+                raise SystemExit(f'{word[1:]} and the two rules of the other states must stand one behind another in numbers.txt')
+            return 'Turn', first
         if word.startswith('<=') and word.endswith('>'):
             return ('TakeUpTo', *self.ends_of(word[2:-1]))
         if word.startswith('<') and word.endswith('>'):
@@ -252,9 +262,12 @@ def antt_list(items):
     return ' ∷ '.join(str(x) for x in items) + ' ∷ []'
 
 
-def table_file(g):
+def table_file(g, lines=None):
     out = ['// The table of the grammar, made by grammar/make_table.py. It is never written by hand.']
     out.append('use hs_grammar::{CLASSES, Production, Symbol, View};')
+    if lines is not None:
+        out = ['// The table of a small grammar, made by grammar/make_table.py from these lines:', '//'] + ['//     ' + line for line in lines]
+        out.append('use crate::{CLASSES, Production, Symbol, View};')
     out.append('')
     out.append('/// By rule and column, the production with which the rule goes on, 0 for none.')
     out.append(f'pub const ROWS: [[u16; CLASSES]; {len(g.rules)}] = [')
@@ -277,7 +290,8 @@ def table_file(g):
     out += [f'    {rust_symbol(symbol)},' for symbol in symbols]
     out.append('];')
     out.append('')
-    out.append('/// A sign before INTERVAL is looked up in a column of its own.')
+    if lines is None:
+        out.append('/// A sign before INTERVAL is looked up in a column of its own.')
     out.append(f'pub const VIEWS: [View; {len(g.views)}] = [')
     for c, (before, column) in sorted(g.seen.items()):
         out.append(f'    View {{ class: {c}, before: {before}, seen: {column} }},')
@@ -285,8 +299,8 @@ def table_file(g):
     return '\n'.join(out) + '\n'
 
 
-def rows_file(g):
-    out = ['-- What the test of the table needs beside its rows, made by grammar/make_table.py.']
+def rows_file(g, of=''):
+    out = [f'-- What the test of the table{of} needs beside its rows, made by grammar/make_table.py.']
     out.append('use Rattle.std.specs.Prelude.{ℕ, List, [], ◌∷◌}')
     out.append('use Rattle.hs_grammar.specs.Check.{Table}')
     out.append('')
@@ -309,6 +323,20 @@ def rows_file(g):
     out += ['', 'abbrev pub table_of : List (List ℕ) → Table']
     out.append('table_of rows = record { choice = rows; behind = behind; short = short; height = height; weight = weight; solid = solid }')
     return '\n'.join(out) + '\n'
+
+
+def small_tables():
+    """The tables of the tests of hs_grammar."""
+    files = {}
+    for name in ('expression', 'settings'):
+        path = f'hs_grammar/src/tests/{name}.rt'
+        lines = [line[7:].rstrip() for line in open(os.path.join(CRATES, path)) if line.startswith('//     ')]
+        g = Grammar('\n'.join(lines), is_small=True)
+        g.work_out()
+        assert g.conflicts == [], (name, g.conflicts)
+        files[path] = table_file(g, lines)
+        files[f'hs_grammar/proofs/{name.capitalize()}Table.antt'] = rows_file(g, f' in src/tests/{name}.rt')
+    return files
 
 
 def mark_file(g):
@@ -356,6 +384,10 @@ def words_file(g):
     out += [f'    (b"{c}", {g.number[c]}),' for c in sorted(words)]
     out.append('];')
     out.append('')
+    may_be = [symbols[0][1] for rule, symbols in g.productions if rule == 'name']
+    out.append('/// The classes of the words that may be names, and IDENTIFIER.')
+    out.append(f'pub const NAMES: [u8; {len(may_be)}] = [' + ', '.join(str(n) for n in may_be) + '];')
+    out.append('')
     out.append('/// By letter, A being 1, the place in WORDS of the first word with it; and behind the last one the end.')
     out.append('pub const STARTS: [u8; 33] = [' + ', '.join(str(n) for n in starts_of(sorted(words))) + '];')
     return '\n'.join(out) + '\n'
@@ -366,28 +398,29 @@ def main():
     g.work_out()
     names = list(g.rules)
     for rule, column, first, second in g.conflicts:
-        where = g.classes[column] if column < len(g.classes) else 'view of ' + ' '.join(g.views[column - len(g.classes)])
+        where = g.classes[column] if column < len(g.classes) else 'view of ' + ' '.join(g.views[VIEWED - column])
         print(f'conflict in {rule} at {where}: productions {first} and {second}')
     print(f'{len(names)} rules, {len(g.productions) - 1} productions, {sum(len(r) for _, r in g.productions)} symbols, '
           f'{g.column_count} columns, {len(g.marks)} marks, greatest height {max(g.height.values())}, greatest weight {max(g.weight)}')
     if g.conflicts:
         return 1
     files = {'hs_syntax/src/table.rt': table_file(g), 'hs_syntax/src/words.rt': words_file(g), 'hs_syntax/specs/Rows.antt': rows_file(g),
-             'hs_parser/src/marks.rt': mark_file(g)}
+             'hs_parser/src/marks.rt': mark_file(g), PATH: g.numbers.text(), **small_tables()}
     def bare(text):
         return re.sub(r'[\s,]', '', text)
 
     stale = []
     for name, text in files.items():
         path = os.path.join(CRATES, name)
+        if os.path.exists(path) and bare(open(path).read()) == bare(text):
+            continue
         if '--check' in sys.argv:
-            if not os.path.exists(path) or bare(open(path).read()) != bare(text):
-                stale.append(name)
+            stale.append(name)
         else:
             os.makedirs(os.path.dirname(path), exist_ok=True)
             open(path, 'w').write(text)
     for name in stale:
-        print(f'{name} is not what the grammar makes')
+        print(f'{os.path.relpath(os.path.join(CRATES, name))} is not what the grammar makes')
     return 1 if stale else 0
 
 

@@ -7,12 +7,14 @@
 #   WORD, ( ,  a token of this class
 #   <a..b>     a token of a class from a to b; its class is the state from here on
 #   <=a..b>    a token of class a, or of one behind a up to b that is not above the state
-#   !a, !a..b  a token of this class, or of one from a to b, which stands here and isn't offered; first in a production
+#   !a, !a..b, !a..  a token of this class, of one from a to b, or of a or one behind it, which stands here and isn't offered; first in a
+#              production
 #   ?name      what the rule `name`, or the first or the second behind it, derives, as the state is 0, 1 or 2
 #   @k         no token; the state is k from here on
 #   #mark      no token; a step that builds the tree, listed at `marks` with its name in the code
 #
-# The classes of tokens stand at `classes`, in the order of their numbers, from 1.
+# The classes of tokens stand at `classes`, in the order of their numbers, from 1. Rules, productions and steps have those of
+# `numbers.txt`, which the programs keep: what is new is put at its end, so that no number changes.
 #
 # ---------------------------------------------------------------------------------------------------------------------
 # The steps. Each takes parts from the tops of stacks and puts one on a stack; each kind of part has a stack of its own, and
@@ -158,6 +160,8 @@ classes
   fraction
   # texts, of which those of 1 to 18 digits are a class of their own; a word that isn't listed here, or a quoted name
   digit_text other_text identifier
+  # the one that may stand behind WRITE DELAY, where those before it and those behind it are refused
+  FALSE
   # symbols
   ( ) , . * + - / = <> != < <= > >= || ;
   # words that may be names; NUMBER and TYPE, which no rule has, are names like any other
@@ -170,8 +174,9 @@ classes
   LEADING LEFT LIKE LIMIT LOCK LOWER MAX MIN MINUTE MOD MONTH NO NOT NULL NULLIF NUMERIC OFFSET ON ONLY OR ORDER OUTER
   PRIMARY READ REFERENCES RELEASE RESTRICT ROLLBACK SAVEPOINT SECOND SELECT SET SMALLINT START SUBSTRING SUM TABLE
   THEN TIMESTAMP TO TRAILING TRIM TRUE UNION UNIQUE UPDATE UPPER VALUES VARCHAR WHEN WHERE YEAR
-  # words that aren't offered, but for FALSE
-  BLOB CHAR CLOB DOUBLE FLOAT REAL VARBINARY UNCOMMITTED FALSE
+  # words that aren't offered
+  BLOB CHAR CLOB DOUBLE FLOAT REAL VARBINARY UNCOMMITTED
+  # words that came later, in the order in which they came
 end
 
 marks
@@ -532,7 +537,7 @@ control : LOCKS #control_locks | !MVLOCKS | !MVCC
 default_level : READ default_committed | SERIALIZABLE #default_serializable
 default_committed : COMMITTED #default_read_committed | !UNCOMMITTED
 truth : TRUE #autocommit_true | FALSE #autocommit_false
-write_delay : FALSE #write_delay_false | !0..UNCOMMITTED
+write_delay : FALSE #write_delay_false | !0..identifier | !(..
 
 # ---- expressions
 

@@ -1,0 +1,2 @@
+pub mod PlaceFolds
+pub mod Placing

@@ -1,1 +1,3 @@
 pub mod Depth
+pub mod Lawful
+pub mod Places

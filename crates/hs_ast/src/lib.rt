@@ -7,6 +7,7 @@ mod copies;
 mod copies_of_statements;
 mod definition;
 mod expression;
+mod laws;
 mod literal;
 mod query;
 mod session;
@@ -22,6 +23,9 @@ pub use definition::{
 pub use expression::{
     Aggregate, BinaryOperator, CaseArm, ColumnName, Condition, DateField, Expression,
     ExpressionKind, Function, IntervalUnit, Sign, TrimForm,
+};
+pub use laws::{
+    alike_trees_differ_in_places_alone, places_are_set_anew, places_make_no_depth_and_break_no_law,
 };
 pub use literal::{Literal, Number};
 pub use query::{

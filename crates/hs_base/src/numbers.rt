@@ -23,3 +23,10 @@ pub struct PageNo(pub u64);
 /// The number of a session, from 1 to 64, in the order in which their names first came.
 #[derive(Clone, Copy, Debug, PartialEq, Eq, PartialOrd, Ord)]
 pub struct SessionNo(pub u32);
+
+/// A row by its table and its number there. Names order by the table and then by the row.
+#[derive(Clone, Copy, Debug, PartialEq, Eq, PartialOrd, Ord)]
+pub struct RowName {
+    pub table: TableNo,
+    pub row: RowNo,
+}

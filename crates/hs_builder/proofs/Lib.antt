@@ -9,3 +9,6 @@ pub mod Heights
 pub mod Lifting
 pub mod Marked
 pub mod Trees
+pub mod LawfulLayers
+pub mod LawfulMarks
+pub mod LawfulSteps

@@ -7,3 +7,4 @@ pub mod MarkSteps
 pub mod Queries
 pub mod Sessions
 pub mod Steps
+pub mod LawfulParts

@@ -1,5 +1,6 @@
 pub mod LongDivision
 pub mod Numerals
+pub mod PrintedLines
 pub mod PrintedText
 pub mod Raised
 pub mod ReadBack

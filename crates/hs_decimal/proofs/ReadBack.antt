@@ -8,7 +8,7 @@ use Rattle.std.proofs.lemmas.List.{length-replicate}
 use Rattle.std.proofs.Math.Nat.{mod-lt, one-le-pow, div-add-mod, div-one, div-le_self}
 use Rattle.hs_decimal.proofs.Numerals.{digits_value-append, all-append}
 use Rattle.hs_decimal.proofs.Spelling.{is_read}
-use Rattle.hs_decimal.specs.Text.{Spells, whole, pointed, read_of, text_of, padded, IsReadable}
+use Rattle.hs_decimal.specs.Text.{Spells, whole, pointed, read_of, text_of, padded, unsigned, IsReadable}
 use Rattle.hs_values.specs.Decimal.{IsDecimal}
 use Rattle.hs_values.specs.declared.value.Dec.{Dec}
 
@@ -21,12 +21,12 @@ digits_value-zeros zero = refl
 digits_value-zeros (suc k) = digits_value-zeros k
 
 -- zeros in front of digits change nothing but their number
-record Fills (places n : ℕ) (digits : List ℕ) : Type 0 where
-  all : AllDigits 10 digits
-  value : digits_value 10 digits ≡ n
-  size : length digits ≡ places
+pub record Fills (places n : ℕ) (digits : List ℕ) : Type 0 where
+  pub all : AllDigits 10 digits
+  pub value : digits_value 10 digits ≡ n
+  pub size : length digits ≡ places
 
-fills : (places n : ℕ) → 0 < places → n < 10 ^ places → n < 10 ^ 64 → Fills places n (padded places n)
+pub fills : (places n : ℕ) → 0 < places → n < 10 ^ places → n < 10 ^ 64 → Fills places n (padded places n)
 unfolding padded
 fills places n some fits wide =
     let numeral = decimal_is_IsNumeral_wide n wide in
@@ -37,10 +37,6 @@ fills places n some fits wide =
       value = digits_value-append zeros (decimal n) ∙ rw (digits_value-zeros (places - length (decimal n))) (omega (arith, numeral.1));
       size = omega (arith, length-append zeros (decimal n), length-replicate {A = ℕ} (places - length (decimal n)) 48, short);
     }
-
--- the number of these units behind this scale
-abbrev unsigned : ℕ → ℕ → Dec
-unsigned size scale = record { units = pos size; scale = scale }
 
 -- with nothing behind the point
 whole_back : (size : ℕ) → size < 10 ^ 38 → length (decimal size) ≤ 38 → Spells (decimal size) (unsigned size 0)
@@ -59,15 +55,15 @@ pointed_back front back scale some fits front_wide back_wide few =
     subst (λ n. P n scale) value (subst (P (digits_value 10 (decimal front ++ padded scale back))) f.size
     (pointed (decimal front) (padded scale back) numeral.0 (omega (arith, f.size), f.all) (omega (arith, f.size))))
 
-text_of-whole : (size : ℕ) → text_of (unsigned size 0) ≡ decimal size
+pub text_of-whole : (size : ℕ) → text_of (unsigned size 0) ≡ decimal size
 unfolding text_of
 text_of-whole size = append-nil (decimal (size / 1)) ∙ ap decimal (div-one size)
 
-text_of-pointed : (size scale : ℕ) → 0 < scale → text_of (unsigned size scale) ≡ decimal (size / 10 ^ scale) ++ 46 ∷ padded scale (size % 10 ^ scale)
+pub text_of-pointed : (size scale : ℕ) → 0 < scale → text_of (unsigned size scale) ≡ decimal (size / 10 ^ scale) ++ 46 ∷ padded scale (size % 10 ^ scale)
 unfolding text_of
 text_of-pointed size scale some = rw (ne_eqb scale 0 (omega arith)) refl
 
-spelled_back : (units : ℤ) (scale : ℕ) → let a : Dec = record { units = units; scale = scale } in IsDecimal a → IsReadable a → Spells (text_of a) a
+pub spelled_back : (units : ℤ) (scale : ℕ) → let a : Dec = record { units = units; scale = scale } in IsDecimal a → IsReadable a → Spells (text_of a) a
 spelled_back (negsuc n) scale lawful readable = absurd readable.unsigned.le
 spelled_back (pos size) zero lawful readable =
     let few : length (decimal size) ≤ 38 = rw (sym (div-one size)) (omega (arith, readable.few)) in

@@ -1,15 +1,10 @@
 -- What + - * and / of two decimals give, by exact whole numbers.
 use Rattle.std.specs.Prelude.{◌+◌, ◌-◌, ◌^◌, max, pos, ◌+ℤ◌, ◌-ℤ◌, ◌*ℤ◌, unsigned_abs, int_div, if◌then◌else◌, ◌==◌, Result, Ok, Err}
 use Rattle.hs_values.specs.Decimal.{checked_of, rescaled_of}
+use Rattle.hs_values.specs.Outcome.{◌>>=◌}
 use Rattle.hs_values.specs.declared.value.Dec.{Dec}
 use Rattle.hs_values.specs.declared.fault.EvalFault.{EvalFault}
 use Rattle.hs_values.specs.declared.fault.EvalFault.TheVariants.{DivisionByZero}
-
--- what is made of a value, or the fault that stands in its place
-infixl 10 ◌>>=◌
-abbrev pub ◌>>=◌ : {A B : Type 0} → Result A EvalFault → (A → Result B EvalFault) → Result B EvalFault
-(Ok x) >>= f = f x
-(Err e) >>= f = Err e
 
 -- at the greater scale, which each operand is given first
 unfoldable pub sum_of : Dec → Dec → Result Dec EvalFault

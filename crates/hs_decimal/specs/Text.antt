@@ -28,6 +28,10 @@ whole_of a = decimal (unsigned_abs a.units / 10 ^ a.scale)
 unfoldable pub text_of : Dec → List ℕ
 text_of a = sign_of a.units ++ whole_of a ++ fraction_of a.scale (unsigned_abs a.units % 10 ^ a.scale)
 
+-- the number of these units, without a sign, at this scale
+abbrev pub unsigned : ℕ → ℕ → Dec
+unsigned size scale = record { units = pos size; scale = scale }
+
 -- ---- what is read
 
 -- the text is a number: digits, or digits with one point and a digit behind it, at most 38 digits in all; and d is this

@@ -4,6 +4,7 @@
 
 mod arithmetic;
 mod division;
+mod printed;
 mod printing;
 mod reading;
 #[cfg(test)]
@@ -12,5 +13,6 @@ mod tests;
 pub use arithmetic::{add, mul, sub};
 pub use division::div;
 pub use hs_values::rescale;
+pub use printed::read_printed;
 pub use printing::print;
 pub use reading::read;

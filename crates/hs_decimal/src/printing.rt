@@ -18,7 +18,7 @@ const WIDEST: usize = 41;
 /// `NoMemory`, nothing is changed.
 ///
 /// What is printed of a number without a sign, in at most 38 digits, [`read`](crate::read) gives
-/// back, with its scale.
+/// back, with its scale; [`read_printed`](crate::read_printed) gives back every number.
 #[tactic(auto, using(crate::proofs::ReadBack::read_back))]
 pub fn print(a: Dec, out: &mut Chars) -> Result<(), EvalFault>
     requires { IsDecimal a }
@@ -32,7 +32,7 @@ pub fn print(a: Dec, out: &mut Chars) -> Result<(), EvalFault>
 }
 
 /// A decimal's text.
-fn text(a: Dec) -> ArrayString<WIDEST>
+pub(crate) fn text(a: Dec) -> ArrayString<WIDEST>
     requires { IsDecimal a }
     ensures { result.bytes ≡ text_of a }
 {

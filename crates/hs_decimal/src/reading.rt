@@ -1,7 +1,8 @@
 // The number that a text spells.
-ghost use Rattle.std.specs.Prelude.{◌≡◌, ◌≤◌, ◌↔◌, length, Some, true, SomeIff};
+ghost use Rattle.std.specs.Prelude.{◌≡◌, ◌≤◌, ◌↔◌, length, Some, IfSome, true, SomeIff};
 ghost use Rattle.std.specs.Str.{all_ascii_digits};
 ghost use Rattle.std.specs.Str.Parse.{digits_value};
+ghost use Rattle.hs_values.specs.Decimal.{IsDecimal};
 ghost use Rattle.hs_decimal.specs.Text.{Spells, number_of, read_of};
 
 use hs_values::{Dec, MOST_DIGITS, ten_to};
@@ -14,6 +15,7 @@ use hs_values::{Dec, MOST_DIGITS, ten_to};
 pub fn read(text: &str) -> Option<Dec>
     ensures value { result ≡ read_of text.now }
     ensures spelled { (d : Dec) → (result ≡ Some d) ↔ Spells text.now d }
+    ensures lawful { IfSome result IsDecimal }
 {
     match text.split_once('.') {
         None => number(text, ""),
@@ -29,7 +31,8 @@ pub fn read(text: &str) -> Option<Dec>
 
 /// The number of these digits and of those behind its point.
 fn number(digits: &str, fraction: &str) -> Option<Dec>
-    ensures { result ≡ number_of digits.now fraction.now }
+    ensures value { result ≡ number_of digits.now fraction.now }
+    ensures lawful { IfSome result IsDecimal }
 {
     let most = usize::from(MOST_DIGITS);
     if digits.is_empty() || digits.len() > most || fraction.len() > most - digits.len() {
@@ -46,7 +49,7 @@ fn number(digits: &str, fraction: &str) -> Option<Dec>
 }
 
 /// The number that digits write. `None` exactly where there is another byte among them.
-fn digits_number(digits: &[u8]) -> Option<u128>
+pub(crate) fn digits_number(digits: &[u8]) -> Option<u128>
     requires { length digits.now ≤ 38 }
     ensures { SomeIff result (all_ascii_digits digits.now ≡ true) (digits_value 10 digits.now) }
 {

@@ -225,11 +225,28 @@ static PRINTED: [(Parts, &str); 21] = [
     ((0, 38), "0.00000000000000000000000000000000000000"),
 ];
 
+/// Texts of which no decimal is printed, though some are read as numbers elsewhere.
+static UNPRINTED: [&str; 10] = [
+    "",
+    "-",
+    "1.",
+    ".5",
+    "01",
+    "00",
+    "-0",
+    "-0.00",
+    "+1",
+    "0.000000000000000000000000000000000000000",
+];
+
 #[test]
 fn agrees_with_the_tables(rt: HostRuntime) -> Result<(), Fail> {
     reckons(&rt, &RECKONED)?;
     reads(&rt, &READ);
     prints(&rt, &PRINTED, rt.alloc())?;
+    for text in &UNPRINTED {
+        assert_eq!(rt; read_printed(text), None, "{text:?}");
+    }
     Ok(())
 }
 
@@ -262,6 +279,7 @@ fn prints(rt: &impl Abort, cases: &[(Parts, &str)], alloc: Global) -> Result<(),
         expected.push_str(text)?;
         print(checked_decimal(*units, *scale)?, &mut out)?;
         assert_eq!(rt; out.as_str(), expected.as_str());
+        assert_eq!(rt; read_printed(text).map(parts), Some((*units, *scale)));
     }
     Ok(())
 }

@@ -8,4 +8,6 @@
 
 mod laws;
 
-pub use laws::{born_logs_are_served, commits_are_none_or_all, nothing_changes, served_files_survive};
+pub use laws::{
+    born_logs_are_served, commits_are_none_or_all, nothing_changes, served_files_survive,
+};

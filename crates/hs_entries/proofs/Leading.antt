@@ -6,7 +6,7 @@ use Rattle.hs_entries.proofs.Spans.{span-append, span_one, take-span}
 use Rattle.std.proofs.lemmas.Grind.{common_steps}
 use Rattle.hs_entries.specs.declared.place.Place.{Place}
 use Rattle.hs_entries.specs.declared.place.Place.TheVariants.{Between, Text, Quoted, Line, LineBetween, Block, BlockBetween}
-use Rattle.hs_entries.specs.Place.{next_place, is_open, ends, stops, leads, passes, is_between, KeepsPlace}
+use Rattle.hs_entries.specs.Place.{is_white, next_place, is_open, ends, stops, leads, passes, is_between, KeepsPlace}
 
 -- bytes one after another
 pub leads-append : (p q : Place) (xs ys : List ℕ) → leads p xs ≡ Some q → leads p (xs ++ ys) ≡ leads q ys
@@ -67,6 +67,25 @@ pub passes-append : (p q : Place) (xs ys : List ℕ) → passes p xs ≡ Some q 
 passes-append p q [] ys h = grind (arith, common_steps)
 passes-append p q (x ∷ xs) ys h =
     let later = passes-append (next_place p x) q xs ys in grind (arith, later)
+
+white_last : (b : ℕ) → is_white b ≡ true → passes Between (b ∷ []) ≡ Some Between
+unfolding next_place is_open
+white_last b white = grind (arith, white)
+
+-- one byte of white space more
+pub passes_white : (xs : List ℕ) (i : ℕ) → i < length xs → passes Between (take i xs) ≡ Some Between → is_white (slice_index xs i) ≡ true
+    → passes Between (take (i + 1) xs) ≡ Some Between
+unfolding next_place is_open
+passes_white xs i inside h white =
+    let last : passes Between (slice_index xs i ∷ []) ≡ Some Between = white_last (slice_index xs i) white in
+    ap (λ (l : List ℕ). passes Between l) (take_more xs i 0 inside) ∙ passes-append Between Between (take i xs) (slice_index xs i ∷ []) h ∙ last
+
+-- bytes that lead between two entries, and such bytes behind them
+pub passes_on : (xs : List ℕ) (i j k : ℕ) → passes Between (slice_range xs i j) ≡ Some Between → passes Between (slice_range xs j k) ≡ Some Between
+    → i ≤ j → j ≤ k → passes Between (slice_range xs i k) ≡ Some Between
+passes_on xs i j k first then low high =
+    ap (λ (l : List ℕ). passes Between l) (sym (span-append xs i j k low high))
+    ∙ passes-append Between Between (slice_range xs i j) (slice_range xs j k) first ∙ then
 
 -- in a list whose parts lie one behind another: some bytes more
 pub leads_span : (p q r : Place) (xs : List ℕ) (i j k e : ℕ) → leads p (slice_range xs i j) ≡ Some q

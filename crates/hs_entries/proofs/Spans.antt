@@ -70,3 +70,13 @@ pub read_there : (xs front back : List ℕ) (i j n : ℕ) → i ≡ j → j ≤ 
     → slice_range (take j xs ++ (front ++ back)) i (j + n) ≡ take n front
 read_there xs front back i j n same inside within =
     ap (λ (k : ℕ). slice_range (take j xs ++ (front ++ back)) k (j + n)) same ∙ written_span xs front back j n inside within
+
+-- the front of what stands behind the first element of the front of a part
+pub white_span : (xs : List ℕ) (r j e n : ℕ) → j + (1 + n) ≤ e → 1 + n ≤ r → take n (drop 1 (take r (slice_range xs j e))) ≡ slice_range xs (j + 1) (j + (1 + n))
+white_span xs r j e n inside within =
+    let all : r ≡ 1 + (r - 1) = omega arith in
+    let low : n ≤ r - 1 = omega arith in
+    let behind : j + 1 + n ≡ j + (1 + n) = omega arith in
+    ap (λ (k : ℕ). take n (drop 1 (take k (slice_range xs j e)))) all ∙ ap (λ (l : List ℕ). take n l) (drop-take 1 (r - 1) (slice_range xs j e))
+    ∙ take-take n (r - 1) (drop 1 (slice_range xs j e)) low ∙ ap (λ (l : List ℕ). take n l) (drop-span xs 1 j e (omega arith))
+    ∙ take-span xs n (j + 1) e (omega arith) ∙ ap (λ (k : ℕ). slice_range xs (j + 1) k) behind

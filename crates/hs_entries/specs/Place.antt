@@ -1,11 +1,8 @@
 -- Where a byte of the input stands: between two entries, or where in an entry.
 use Rattle.std.specs.Prelude.{◌≡◌, ℕ, Bool, true, false, ◌==◌, ◌||◌, ◌&&◌, if◌then◌else◌, List, [], ◌∷◌, Option, None, Some}
+pub use Rattle.hs_lexer.specs.Bytes.{is_white}
 use Rattle.hs_entries.specs.declared.place.Place.{Place}
 use Rattle.hs_entries.specs.declared.place.Place.TheVariants.{Between, DashBetween, SlashBetween, LineBetween, BlockBetween, StarBetween, Plain, Dash, Slash, Text, Quoted, Line, Block, Star}
-
--- white space: tab, line feed, form feed, carriage return, space
-abbrev pub is_white : ℕ → Bool
-is_white b = b == 9 || b == 10 || b == 12 || b == 13 || b == 32
 
 -- in an entry, outside its texts, quoted names and comments, behind this byte: `'` begins a text, `"` a
 -- quoted name, and `-` and `/` may begin a comment

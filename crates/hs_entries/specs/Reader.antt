@@ -34,6 +34,18 @@ next_number r = r.count + 1
 abbrev pub kept : EntryReader → Option InputFault
 kept r = r.kept
 
+-- a read gave it no byte
+abbrev pub has_ended : EntryReader → Bool
+has_ended r = r.has_ended
+
+-- it asks its source no more
+abbrev pub rests : EntryReader → Bool
+rests r = is_some (kept r) || has_ended r
+
+-- where the input has ended for the reader, its source has nothing left
+abbrev pub AgreesWith : EntryReader → List ℕ → Type 0
+AgreesWith r rest = has_ended r ≡ true → rest ≡ []
+
 -- A whole item is among those of these bytes that may be used, or a byte beyond those is there.
 abbrev pub is_answered : ℕ → ℕ → List ℕ → Bool
 is_answered number room bytes = nat_lt room (length bytes) || has_item (whole_items number (take room bytes))
@@ -43,15 +55,19 @@ is_at_hand r = is_answered (next_number r) (room r) (ahead r)
 
 -- the next answer needs no more input
 abbrev pub is_ready : EntryReader → Bool
-is_ready r = is_some (kept r) || is_at_hand r
+is_ready r = rests r || is_at_hand r
 
 -- it needs no more input than these bytes behind those at hand
 abbrev pub is_ready_with : EntryReader → List ℕ → Bool
-is_ready_with r more = is_some (kept r) || is_answered (next_number r) (room r) (ahead r ++ more)
+is_ready_with r more = rests r || is_answered (next_number r) (room r) (ahead r ++ more)
 
--- what is left for a reader whose source has this left
+-- what is left for a reader behind whose bytes at hand these come
+abbrev pub left_over : EntryReader → List ℕ → Left
+left_over r rest = record { number = next_number r; place = Between; begun = []; room = room r; input = ahead r ++ rest }
+
+-- what is left for a reader whose source has this left: once the input has ended for it, nothing but its bytes at hand
 abbrev pub left : EntryReader → List ℕ → Left
-left r rest = record { number = next_number r; place = Between; begun = []; room = room r; input = ahead r ++ rest }
+left r rest = left_over r (if has_ended r then [] else rest)
 
 -- the same in the middle of an entry or a comment that is too long to be kept, at this place
 abbrev pub left_within : EntryReader → Place → List ℕ → Left
@@ -92,7 +108,7 @@ cut_at place is_too_long number =
 -- what becomes of a long entry or comment, where bytes are used from a place on
 abbrev pub Skims : EntryReader → Place → List ℕ → Skim → EntryReader → Type 0
 Skims old from rest Entry new =
-    Takes (left_within old from rest) (TooLong (next_number old)) (record (left new rest) { number = next_number old + 1 })
-Skims old from rest Skipped new = Continues (left_within old from rest) (left new rest)
+    Takes (left_within old from rest) (TooLong (next_number old)) (record (left_over new rest) { number = next_number old + 1 })
+Skims old from rest Skipped new = Continues (left_within old from rest) (left_over new rest)
 Skims old from rest Limit new = IsBeyond (left_within old from rest) × (room new < length (ahead new))
 Skims old from rest (Nothing place) new = Continues (left_within old from rest) (left_within new place rest) × (ahead new ≡ [])

@@ -13,8 +13,6 @@ mod item;
 mod laws;
 mod place;
 mod reader;
-#[cfg(test)]
-mod tests;
 mod window;
 
 pub use input_fault::InputFault;

@@ -131,11 +131,32 @@ fn next_between(byte: u8) -> Place
     ensures { result ≡ spec.next_place Place.Between byte }
 {
     match byte {
-        b'\t' | b'\n' | 12 | b'\r' | b' ' => Place::Between,
+        _ if is_white(byte) => Place::Between,
         b'-' => Place::DashBetween,
         b'/' => Place::SlashBetween,
         _ => behind(byte),
     }
+}
+
+// White space: tab, line feed, form feed, carriage return, space.
+#[inline]
+fn is_white(byte: u8) -> bool
+    ensures { result ≡ spec.is_white byte }
+{
+    matches!(byte, b'\t' | b'\n' | 12 | b'\r' | b' ')
+}
+
+/// How many bytes at the front are white space, which is skipped between two entries.
+#[tactic(auto, using(crate::proofs::Leading::passes_white))]
+pub fn white_run(bytes: &[u8]) -> usize
+    ensures within { result ≤ length bytes.now }
+    ensures passes { spec.passes Place.Between (take result bytes.now) ≡ Some Place.Between }
+{
+    let mut count = 0;
+    while count < bytes.len() && is_white(bytes[count]) {
+        count += 1;
+    }
+    count
 }
 
 // The place in an entry, outside its texts, quoted names and comments, behind a byte.

@@ -1,11 +1,11 @@
 // Reads the items of the input.
-ghost use Rattle.std.specs.Prelude.{◌≡◌, ◌⊎◌, true, false, ℕ, ◌+◌, ◌-◌, ◌<◌, ◌≤◌, ◌^◌, List, [], ◌++◌, length, None, Some, IfOk, IfErr, IfSome, IfNone, OnOk, OnErr, IsErrOf, MatchOption};
+ghost use Rattle.std.specs.Prelude.{◌≡◌, ◌⊎◌, true, false, ℕ, ◌+◌, ◌-◌, ◌<◌, ◌≤◌, ◌^◌, List, [], ◌++◌, length, None, Some, IfOk, IfErr, IfSome, IfNone, OnOk, OnErr, IsErrOf, MatchOption, MatchResult};
 ghost use Rattle.std.proofs.Props.{props};
 ghost use Rattle.hs_host.specs.Host.{Rose};
 ghost use Rattle.hs_entries.specs.Place.{is_entry};
 ghost use Rattle.hs_entries.specs.Left.{TakesFirst, TakesWhole, RunsOut, IsBeyond, IsNumbered, KeepsRoom, Takes, Continues};
 ghost use Rattle.hs_entries.specs.Asking.{Asks, Asked, NeedsMore};
-ghost use Rattle.hs_entries.specs.Window.{IsSound, IsAtEnd, IsFresh, left_of, begun_of, room_of};
+ghost use Rattle.hs_entries.specs.Window.{IsSound, IsAtEnd, IsFresh, ahead_of, left_of, begun_of, room_of};
 
 use crate::entry::{cut_entry, read_entry};
 use crate::input_fault::InputFault;
@@ -22,12 +22,14 @@ pub struct EntryReader {
     window: Window,
     count: u64,
     kept: Option<InputFault>,
+    has_ended: bool,
     ghost sound: { IsSound window } by { Prim.hlevel props },
     ghost numbers: { count + room_of window < 2 ^ 64 },
+    ghost rested: { has_ended ≡ true → ahead_of window ≡ [] } by { Prim.hlevel props },
 }
 
 impl EntryReader {
-    ghost use Rattle.hs_entries.specs.Reader.{ahead, room, next_number, kept, is_ready as ready, is_ready_with as ready_with, is_at_hand, finds, left, left_within, left_items, left_whole, Shrinks, Grows, Skims, cut_at};
+    ghost use Rattle.hs_entries.specs.Reader.{ahead, room, next_number, kept, has_ended, rests, AgreesWith, is_ready as ready, is_ready_with as ready_with, is_at_hand, finds, left, left_over, left_within, left_items, left_whole, Shrinks, Grows, Skims, cut_at};
 
     /// A reader of a source of which at most `limit` bytes are used. Takes no memory: the first `next` takes
     /// that for the bytes at hand.
@@ -36,12 +38,14 @@ impl EntryReader {
         ensures room { room result ≡ limit }
         ensures number { next_number result ≡ 1 }
         ensures kept { kept result ≡ None }
+        ensures ended { has_ended result ≡ false }
     {
         EntryReader {
             alloc,
             window: Window::new(alloc, limit),
             count: 0,
             kept: None,
+            has_ended: false,
         }
     }
 
@@ -53,8 +57,9 @@ impl EntryReader {
         ensures room { room self.new ≡ room self.old }
         ensures number { next_number self.new ≡ next_number self.old }
         ensures kept { kept self.new ≡ kept self.old }
+        ensures ended { has_ended self.new ≡ has_ended self.old }
     {
-        self.kept.is_some() || self.look() != Look::Nothing
+        self.kept.is_some() || self.has_ended || self.look() != Look::Nothing
     }
 
     // Looks for the next item among the bytes at hand.
@@ -67,22 +72,24 @@ impl EntryReader {
         ensures room { room self.new ≡ room self.old }
         ensures count { self.new.count ≡ self.old.count }
         ensures kept { self.new.kept ≡ self.old.kept }
+        ensures ended { self.new.has_ended ≡ self.old.has_ended }
     {
         self.window.look()
     }
 
     /// The next item of the input. It asks for input only where it needs a byte and has none left: before each
-    /// read no answer is ready in what was at hand and what the reads of this call gave by then. A fault is
-    /// kept: each later call answers it again, without a call of the source.
+    /// read no answer is ready in what was at hand and what the reads of this call gave by then. A read that gives
+    /// no byte ends the input for this reader: it asks its source no more, whatever that may still get. A fault is kept:
+    /// each later call answers it again, without a call of the source.
     ///
     /// `Fault` comes only where a read of the source failed in this call. `TooLong` comes exactly where the
     /// next item isn't whole, up to its `;`, within the limit, the input has more, and no read of this call
     /// fails first. `NoMemory` is free.
     pub fn next<S: Source>(&mut self, source: &mut S) -> Result<Item, InputFault>
-        // The items are those of the bytes at hand and then those that the source has left.
+        // The items are those of the bytes at hand and then, until the input has ended, those that the source has left.
         ensures item { S.tells → IfOk result (λ item. TakesFirst (left_items self.old (S.unread source.old)) item (left_items self.new (S.unread source.new))) }
         ensures number { IfOk result (λ item. IsNumbered item (next_number self.old) (next_number self.new)) }
-        ensures end { S.tells → IfOk result (λ item. item ≡ Item.End → ahead self.new ++ S.unread source.new ≡ []) }
+        ensures end { IfOk result (λ item. item ≡ Item.End → (has_ended self.new ≡ true) × (ahead self.new ≡ [])) }
         ensures shrinks { IfOk result (λ item. Shrinks item (room self.old) (room self.new)) }
 
         // Within the limit.
@@ -99,12 +106,17 @@ impl EntryReader {
 
         // The source.
         ensures ready { ready self.old ≡ true → source.new ≡ source.old }
-        ensures needed { Asks S.reads (λ more. ready_with self.old more ≡ false) source.old source.new }
+        ensures needed { Asks S.reads (λ more. ready_with self.old more ≡ false) (rests self.new) source.old source.new }
+        ensures ended { has_ended self.old ≡ true → has_ended self.new ≡ true }
+        ensures agrees { S.tells → AgreesWith self.old (S.unread source.old) → AgreesWith self.new (S.unread source.new) }
         ensures later { S.input_faults source.old ≤ S.input_faults source.new }
         ensures only { S.only_input source.old source.new }
     {
         if let Some(fault) = self.kept {
             return Err(fault);
+        }
+        if self.has_ended {
+            return Ok(Item::End);
         }
         let item = self.read_item(source);
         if let Err(fault) = &item {
@@ -113,16 +125,19 @@ impl EntryReader {
         item
     }
 
-    // The next item, for a reader that keeps no fault.
+    // The next item, for a reader that keeps no fault and for which the input hasn't ended.
     fn read_item<S: Source>(&mut self, source: &mut S) -> Result<Item, InputFault>
-        ensures takes { S.tells → IfOk result (λ item. Takes (left self.old (S.unread source.old)) item (left self.new (S.unread source.new))) }
+        requires goes_on { self.old.has_ended ≡ false }
+        ensures takes { S.tells → IfOk result (λ item. Takes (left_over self.old (S.unread source.old)) item (left_over self.new (S.unread source.new))) }
         ensures number { IfOk result (λ item. IsNumbered item (next_number self.old) (next_number self.new)) }
         ensures shrinks { IfOk result (λ item. Shrinks item (room self.old) (room self.new)) }
-        ensures beyond { S.tells → IsErrOf result InputFault.TooLong → IsBeyond (left self.old (S.unread source.old)) }
+        ensures end { IfOk result (λ item. item ≡ Item.End → (self.new.has_ended ≡ true) × (ahead self.new ≡ [])) }
+        ensures beyond { S.tells → IsErrOf result InputFault.TooLong → IsBeyond (left_over self.old (S.unread source.old)) }
         ensures past { IsErrOf result InputFault.TooLong → room self.new < length (ahead self.new) }
         ensures fault { IsErrOf result InputFault.Fault → Rose (S.input_faults source.old) (S.input_faults source.new) }
         ensures ready { is_at_hand self.old ≡ true → source.new ≡ source.old }
-        ensures needed { Asks S.reads (λ more. NeedsMore (left self.old more)) source.old source.new }
+        ensures needed { MatchResult result (λ _. Asks S.reads (λ more. NeedsMore (left_over self.old more)) self.new.has_ended source.old source.new) (λ _. Asks S.reads (λ more. NeedsMore (left_over self.old more)) true source.old source.new) }
+        ensures agrees { S.tells → AgreesWith self.new (S.unread source.new) }
         ensures kept { self.new.kept ≡ self.old.kept }
         ensures later { S.input_faults source.old ≤ S.input_faults source.new }
         ensures only { S.only_input source.old source.new }
@@ -142,10 +157,13 @@ impl EntryReader {
     // The entry that ends with the next byte.
     fn entry_at_hand(&mut self) -> Result<Item, AllocError>
         requires found { IsAtEnd self.old.window }
-        ensures takes { IfOk result (λ item. (rest : List ℕ) → Takes (left self.old rest) item (left self.new rest)) }
+        requires goes_on { self.old.has_ended ≡ false }
+        ensures takes { IfOk result (λ item. (rest : List ℕ) → Takes (left_over self.old rest) item (left_over self.new rest)) }
         ensures number { IfOk result (λ item. IsNumbered item (next_number self.old) (next_number self.new)) }
         ensures shrinks { OnOk result (room self.new < room self.old) }
+        ensures some { IfOk result (λ item. item ≡ Item.End → ⊥) }
         ensures kept { self.new.kept ≡ self.old.kept }
+        ensures goes_on { self.new.has_ended ≡ false }
     {
         let item = read_entry(self.alloc, self.count + 1, self.window.entry())?;
         self.window.use_to(1);
@@ -156,16 +174,20 @@ impl EntryReader {
     // Reads more bytes. Answers the item, if the input ends or an entry is too long to be kept.
     fn read_on<S: Source>(&mut self, source: &mut S) -> Result<Option<Item>, InputFault>
         requires looked { left_of self.old.window ≡ [] }
-        ensures none { S.tells → IfOk result (λ item. IfNone item (Continues (left self.old (S.unread source.old)) (left self.new (S.unread source.new)))) }
-        ensures some { S.tells → IfOk result (λ item. IfSome item (λ i. Takes (left self.old (S.unread source.old)) i (left self.new (S.unread source.new)))) }
+        requires goes_on { self.old.has_ended ≡ false }
+        ensures none { S.tells → IfOk result (λ item. IfNone item (Continues (left_over self.old (S.unread source.old)) (left_over self.new (S.unread source.new)))) }
+        ensures some { S.tells → IfOk result (λ item. IfSome item (λ i. Takes (left_over self.old (S.unread source.old)) i (left_over self.new (S.unread source.new)))) }
         ensures number { IfOk result (λ item. MatchOption item (next_number self.new ≡ next_number self.old) (λ i. IsNumbered i (next_number self.old) (next_number self.new))) }
         ensures grows { IfOk result (λ item. IfNone item (Grows self.old self.new)) }
         ensures shrinks { IfOk result (λ item. MatchOption item (room self.new ≤ room self.old) (λ i. Shrinks i (room self.old) (room self.new))) }
-        ensures beyond { S.tells → IsErrOf result InputFault.TooLong → IsBeyond (left self.old (S.unread source.old)) }
+        ensures beyond { S.tells → IsErrOf result InputFault.TooLong → IsBeyond (left_over self.old (S.unread source.old)) }
         ensures past { IsErrOf result InputFault.TooLong → room self.new < length (ahead self.new) }
         ensures fault { IsErrOf result InputFault.Fault → Rose (S.input_faults source.old) (S.input_faults source.new) }
         ensures kept { self.new.kept ≡ self.old.kept }
-        ensures asked { Asked S.reads (left self.old) (left self.new) result source.old source.new }
+        ensures asked { Asked S.reads (left_over self.old) (left_over self.new) self.new.has_ended result source.old source.new }
+        ensures goes_on { IfOk result (λ item. IfNone item (self.new.has_ended ≡ false)) }
+        ensures end { IfOk result (λ item. IfSome item (λ i. i ≡ Item.End → (self.new.has_ended ≡ true) × (ahead self.new ≡ []))) }
+        ensures agrees { S.tells → AgreesWith self.new (S.unread source.new) }
         ensures later { S.input_faults source.old ≤ S.input_faults source.new }
         ensures only { S.only_input source.old source.new }
     {
@@ -182,21 +204,24 @@ impl EntryReader {
     fn refill<S: Source>(&mut self, source: &mut S) -> Result<bool, InputFault>
         requires looked { left_of self.old.window ≡ [] }
         requires kept { length (begun_of self.old.window) < MOST_BYTES }
-        ensures continues { S.tells → OnOk result (Continues (left self.old (S.unread source.old)) (left self.new (S.unread source.new))) }
+        requires goes_on { self.old.has_ended ≡ false }
+        ensures continues { S.tells → OnOk result (Continues (left_over self.old (S.unread source.old)) (left_over self.new (S.unread source.new))) }
         ensures bytes { S.tells → IsFresh self.old.window → OnOk result (ahead self.new ++ S.unread source.new ≡ ahead self.old ++ S.unread source.old) }
         ensures fresh { IsFresh self.old.window → OnOk result (IsFresh self.new.window) }
         ensures begun { OnOk result (begun_of self.new.window ≡ begun_of self.old.window) }
         ensures room { room self.new ≤ room self.old }
         ensures fresh_room { IsFresh self.old.window → OnOk result (room self.new ≡ room self.old) }
         ensures more { IfOk result (λ more. more ≡ true → Grows self.old self.new) }
+        ensures some { IfOk result (λ more. more ≡ true → 0 < length (left_of self.new.window)) }
         ensures none { IfOk result (λ more. more ≡ false → left_of self.new.window ≡ []) }
         ensures end { S.tells → IfOk result (λ more. more ≡ false → S.unread source.new ≡ []) }
         ensures count { self.new.count ≡ self.old.count }
         ensures kept { self.new.kept ≡ self.old.kept }
+        ensures goes_on { self.new.has_ended ≡ false }
         ensures fault { IsErrOf result InputFault.Fault → Rose (S.input_faults source.old) (S.input_faults source.new) }
         ensures too_long { IsErrOf result InputFault.TooLong → ⊥ }
         ensures one { OnOk result (S.reads source.old source.new (left_of self.new.window)) }
-        ensures on { OnOk result ((rest : List ℕ) → Continues (left self.old (left_of self.new.window ++ rest)) (left self.new rest)) }
+        ensures on { OnOk result ((rest : List ℕ) → Continues (left_over self.old (left_of self.new.window ++ rest)) (left_over self.new rest)) }
         ensures err { OnErr result ((source.new ≡ source.old) ⊎ S.reads source.old source.new []) }
         ensures later { S.input_faults source.old ≤ S.input_faults source.new }
         ensures only { S.only_input source.old source.new }
@@ -209,10 +234,13 @@ impl EntryReader {
     fn cut_at_end(&mut self) -> Item
         requires looked { left_of self.old.window ≡ [] }
         requires short { length (begun_of self.old.window) ≤ MOST_BYTES }
-        ensures takes { Takes (left self.old []) result (left self.new []) }
+        requires goes_on { self.old.has_ended ≡ false }
+        ensures takes { Takes (left_over self.old []) result (left_over self.new []) }
         ensures number { IsNumbered result (next_number self.old) (next_number self.new) }
         ensures shrinks { Shrinks result (room self.old) (room self.new) }
+        ensures ahead { ahead self.new ≡ [] }
         ensures kept { self.new.kept ≡ self.old.kept }
+        ensures ended { self.new.has_ended ≡ true }
     {
         let place = self.window.place();
         self.window.use_to(0);
@@ -223,16 +251,20 @@ impl EntryReader {
     fn skip_long<S: Source>(&mut self, source: &mut S) -> Result<Option<Item>, InputFault>
         requires looked { left_of self.old.window ≡ [] }
         requires full { MOST_BYTES ≤ length (begun_of self.old.window) }
-        ensures none { S.tells → IfOk result (λ item. IfNone item (Continues (left self.old (S.unread source.old)) (left self.new (S.unread source.new)))) }
-        ensures some { S.tells → IfOk result (λ item. IfSome item (λ i. Takes (left self.old (S.unread source.old)) i (left self.new (S.unread source.new)))) }
+        requires goes_on { self.old.has_ended ≡ false }
+        ensures none { S.tells → IfOk result (λ item. IfNone item (Continues (left_over self.old (S.unread source.old)) (left_over self.new (S.unread source.new)))) }
+        ensures some { S.tells → IfOk result (λ item. IfSome item (λ i. Takes (left_over self.old (S.unread source.old)) i (left_over self.new (S.unread source.new)))) }
         ensures number { IfOk result (λ item. MatchOption item (next_number self.new ≡ next_number self.old) (λ i. IsNumbered i (next_number self.old) (next_number self.new))) }
         ensures grows { IfOk result (λ item. IfNone item (Grows self.old self.new)) }
         ensures shrinks { OnOk result (room self.new < room self.old) }
-        ensures beyond { S.tells → IsErrOf result InputFault.TooLong → IsBeyond (left self.old (S.unread source.old)) }
+        ensures beyond { S.tells → IsErrOf result InputFault.TooLong → IsBeyond (left_over self.old (S.unread source.old)) }
         ensures past { IsErrOf result InputFault.TooLong → room self.new < length (ahead self.new) }
         ensures fault { IsErrOf result InputFault.Fault → Rose (S.input_faults source.old) (S.input_faults source.new) }
         ensures kept { self.new.kept ≡ self.old.kept }
-        ensures asked { Asked S.reads (left self.old) (left self.new) result source.old source.new }
+        ensures asked { Asked S.reads (left_over self.old) (left_over self.new) self.new.has_ended result source.old source.new }
+        ensures goes_on { IfOk result (λ item. IfNone item (self.new.has_ended ≡ false)) }
+        ensures end { IfOk result (λ item. IfSome item (λ i. i ≡ Item.End → (self.new.has_ended ≡ true) × (ahead self.new ≡ []))) }
+        ensures agrees { S.tells → AgreesWith self.new (S.unread source.new) }
         ensures later { S.input_faults source.old ≤ S.input_faults source.new }
         ensures only { S.only_input source.old source.new }
     {
@@ -254,9 +286,10 @@ impl EntryReader {
     ) -> Result<Option<Item>, InputFault>
         requires fresh { IsFresh self.old.window }
         requires some { 0 < length (ahead self.old) }
+        requires goes_on { self.old.has_ended ≡ false }
         requires number { self.old.count + 1 + room self.old < 2 ^ 64 }
-        ensures none { S.tells → IfOk result (λ item. IfNone item (Continues (left_within self.old from (S.unread source.old)) (left self.new (S.unread source.new)))) }
-        ensures some { S.tells → IfOk result (λ item. IfSome item (λ i. Takes (left_within self.old from (S.unread source.old)) i (left self.new (S.unread source.new)))) }
+        ensures none { S.tells → IfOk result (λ item. IfNone item (Continues (left_within self.old from (S.unread source.old)) (left_over self.new (S.unread source.new)))) }
+        ensures some { S.tells → IfOk result (λ item. IfSome item (λ i. Takes (left_within self.old from (S.unread source.old)) i (left_over self.new (S.unread source.new)))) }
         ensures number { IfOk result (λ item. MatchOption item (next_number self.new ≡ next_number self.old) (λ i. IsNumbered i (next_number self.old) (next_number self.new))) }
         ensures grows { OnOk result (room self.new + length (ahead self.old) ≤ room self.old + length (ahead self.new)) }
         ensures shrinks { OnOk result (room self.new ≤ room self.old) }
@@ -264,7 +297,10 @@ impl EntryReader {
         ensures past { IsErrOf result InputFault.TooLong → room self.new < length (ahead self.new) }
         ensures fault { IsErrOf result InputFault.Fault → Rose (S.input_faults source.old) (S.input_faults source.new) }
         ensures kept { self.new.kept ≡ self.old.kept }
-        ensures asked { Asked S.reads (left_within self.old from) (left self.new) result source.old source.new }
+        ensures asked { Asked S.reads (left_within self.old from) (left_over self.new) self.new.has_ended result source.old source.new }
+        ensures goes_on { IfOk result (λ item. IfNone item (self.new.has_ended ≡ false)) }
+        ensures end { IfOk result (λ item. IfSome item (λ i. i ≡ Item.End → (self.new.has_ended ≡ true) × (ahead self.new ≡ []))) }
+        ensures agrees { S.tells → AgreesWith self.new (S.unread source.new) }
         ensures later { S.input_faults source.old ≤ S.input_faults source.new }
         ensures only { S.only_input source.old source.new }
     {
@@ -285,12 +321,14 @@ impl EntryReader {
     // Uses the bytes at hand from a place on, up to the `;` of an entry or the end of a comment.
     fn skim(&mut self, from: Place) -> Skim
         requires fresh { IsFresh self.old.window }
+        requires goes_on { self.old.has_ended ≡ false }
         ensures fresh { IsFresh self.new.window }
         ensures skims { (rest : List ℕ) → Skims self.old from rest result self.new }
         ensures uses { room self.new + length (ahead self.old) ≡ room self.old + length (ahead self.new) }
         ensures shrinks { room self.new ≤ room self.old }
         ensures count { self.new.count ≡ self.old.count }
         ensures kept { self.new.kept ≡ self.old.kept }
+        ensures goes_on { self.new.has_ended ≡ false }
     {
         let bytes = self.window.in_limit();
         let most = bytes.len();
@@ -315,6 +353,7 @@ impl EntryReader {
         ensures number { next_number self.new ≡ next_number self.old + 1 }
         ensures window { self.new.window ≡ self.old.window }
         ensures kept { self.new.kept ≡ self.old.kept }
+        ensures ended { self.new.has_ended ≡ self.old.has_ended }
     {
         self.count += 1;
         Item::TooLong { number: self.count }
@@ -322,12 +361,15 @@ impl EntryReader {
 
     // The item of an entry or a comment that leads to a place, where the input ends.
     fn cut_item(&mut self, place: Place, is_too_long: bool) -> Item
+        requires none { ahead self.old ≡ [] }
         requires number { is_entry place ≡ true → self.old.count + 1 + room self.old < 2 ^ 64 }
         ensures item { result ≡ cut_at place is_too_long (next_number self.old) }
         ensures number { IsNumbered result (next_number self.old) (next_number self.new) }
         ensures window { self.new.window ≡ self.old.window }
         ensures kept { self.new.kept ≡ self.old.kept }
+        ensures ended { self.new.has_ended ≡ true }
     {
+        self.has_ended = true;
         if !place.is_entry() {
             return Item::End;
         }

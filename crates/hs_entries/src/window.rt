@@ -1,12 +1,12 @@
 // The bytes at hand.
-ghost use Rattle.std.specs.Prelude.{◌≡◌, ◌↔◌, ◌⊎◌, ◌+◌, ◌-◌, ◌<◌, ◌≤◌, false, [], ◌∷◌, ◌++◌, length, take, drop, slice_index, Some, IfOk, OnOk, OnErr, IsErrOf, IsTrue};
+ghost use Rattle.std.specs.Prelude.{◌≡◌, ◌↔◌, ◌⊎◌, ◌+◌, ◌-◌, ◌<◌, ◌≤◌, false, [], ◌∷◌, ◌++◌, length, take, drop, slice_index, slice_range, Some, IfOk, OnOk, OnErr, IsErrOf, IsTrue};
 ghost use Rattle.hs_host.specs.Host.{Rose};
-ghost use Rattle.hs_entries.specs.Place.{leads, ends, next_place};
+ghost use Rattle.hs_entries.specs.Place.{leads, passes, ends, next_place};
 ghost use Rattle.hs_entries.specs.Entry.{is_too_long as too_long};
 
 use crate::input_fault::InputFault;
 use crate::item::MOST_BYTES;
-use crate::place::{Place, scan};
+use crate::place::{Place, scan, white_run};
 use hs_host::Source;
 use std::alloc::{AllocError, Global};
 
@@ -159,7 +159,7 @@ impl Window {
         self.place.ends(self.buffer[self.at])
     }
 
-    // Skips what is begun with the next byte, which leads between two entries.
+    // Skips what is begun with the next byte, which leads between two entries, and the white space behind it.
     fn skip(&mut self)
         requires sound { IsSound self.old }
         requires there { self.old.at < self.old.end }
@@ -167,12 +167,28 @@ impl Window {
         requires goes_on { ends self.old.place (slice_index self.old.buffer.items self.old.at) ≡ false }
         requires between { next_place self.old.place (slice_index self.old.buffer.items self.old.at) ≡ Place.Between }
         ensures sound { IsSound self.new }
-        ensures fields { self.new ≡ record self.old { at = self.old.at + 1; first = self.old.at + 1; room = self.old.room - 1; place = Place.Between } }
+        ensures ahead { ahead_of self.new ≡ ahead_of self.old }
+        ensures room { room_of self.new ≡ room_of self.old }
+        ensures more { self.old.at < self.new.at }
+        ensures end { self.new.end ≡ self.old.end }
     {
-        self.at += 1;
-        self.room -= 1;
+        let count = 1 + self.white_behind();
+        self.at += count;
+        self.room -= count as u64;
         self.first = self.at;
         self.place = Place::Between;
+    }
+
+    // How many bytes behind the next one are white space.
+    fn white_behind(&self) -> usize
+        requires sound { IsSound self.now }
+        requires there { self.now.at < self.now.end }
+        requires room { 0 < self.now.room }
+        ensures within { self.now.at + (1 + result) ≤ self.now.end }
+        ensures room { 1 + result ≤ self.now.room }
+        ensures passes { passes Place.Between (slice_range self.now.buffer.items (self.now.at + 1) (self.now.at + (1 + result))) ≡ Some Place.Between }
+    {
+        white_run(&self.in_limit()[1..])
     }
 
     /// The bytes of the entry that ends with the next byte.

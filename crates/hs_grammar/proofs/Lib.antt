@@ -9,3 +9,4 @@ pub mod ExpressionTable
 pub mod SettingsTable
 pub mod LeftmostLaw
 pub mod Meaning
+pub mod OneSentence

@@ -181,7 +181,7 @@ module _ (g : Grammar) (t : Table) (good : Good g t) where
       ready_first g.views t End end (right g p) s (good.each p a b).placed (λ f.
       sits_join g.views t End (right g p) s (sits_less g.views t (λ y. Leads g.views t End s y) (λ y. Has end y) h.0.1 (right g p) (sits_of g.views t end (right g p) f)) h.1)
 
-  chosen : (p : ℕ) → 0 < p → p < length g.productions → (s : List Symbol) → Sits g.views t End (S.Rule (rule_of g p) ∷ s) → (x : ℕ)
+  pub chosen : (p : ℕ) → 0 < p → p < length g.productions → (s : List Symbol) → Sits g.views t End (S.Rule (rule_of g p) ∷ s) → (x : ℕ)
       → Leads g.views t End (right g p ++ s) x → cell t.choice (rule_of g p) x ≡ p
   chosen p a b s h x k =
       let end = row t.behind (rule_of g p) in

@@ -7,3 +7,4 @@ pub mod Taken
 pub mod Fronts
 pub mod Slices
 pub mod Sayings
+pub mod Sound

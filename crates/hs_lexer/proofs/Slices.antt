@@ -64,7 +64,7 @@ pub record IsFramed (piece : List ℕ) (first last : ℕ) (behind front : List �
   pub first_ascii : first < 128
   pub last_ascii : last < 128
 
-abbrev Framed : List ℕ → Type 0
+abbrev pub Framed : List ℕ → Type 0
 Framed piece = (first : ℕ) × (last : ℕ) × (behind : List ℕ) × (front : List ℕ) × IsFramed piece first last behind front
 
 -- the last byte
@@ -87,7 +87,7 @@ symbol_framed (b ∷ []) h = (b, b, [], [], record { begins = refl; ends = refl;
 symbol_framed (b ∷ c ∷ []) h = let k = pair_ascii b c h in (b, c, c ∷ [], b ∷ [], record { begins = refl; ends = refl; first_ascii = k.0; last_ascii = k.1 })
 symbol_framed (b ∷ c ∷ d ∷ bytes) h = cc
 
-framed : {kind : TokenKind} {piece : List ℕ} → Spells (Token kind) piece → Framed piece
+pub framed : {kind : TokenKind} {piece : List ℕ} → Spells (Token kind) piece → Framed piece
 framed (word b bytes h all) =
     let m = last_of is_in_word b bytes (word_goes b h) all in
     (b, m.1, bytes, m.0, record { begins = refl; ends = m.2; first_ascii = word_ascii b h; last_ascii = in_word_ascii m.1 m.3 })
@@ -120,10 +120,10 @@ pub get_or_last : (front : List ℕ) (b : ℕ) (rest : List ℕ) → get_or ((fr
 get_or_last [] b rest = refl
 get_or_last (x ∷ front) b rest = get_or_last front b rest
 
-rest_of : (source bytes piece rest : List ℕ) (at : ℕ) → drop at source ≡ bytes → bytes ≡ piece ++ rest → drop (at + length piece) source ≡ rest
+pub rest_of : (source bytes piece rest : List ℕ) (at : ℕ) → drop at source ≡ bytes → bytes ≡ piece ++ rest → drop (at + length piece) source ≡ rest
 rest_of source bytes piece rest at here cut = sym (drop-drop (length piece) at source) ∙ ap (drop (length piece)) (here ∙ cut) ∙ behind_all piece rest
 
-slice_of_piece : (source bytes piece rest : List ℕ) (at : ℕ) → IsUtf8 source → at + length bytes ≡ length source → drop at source ≡ bytes → bytes ≡ piece ++ rest → Framed piece
+pub slice_of_piece : (source bytes piece rest : List ℕ) (at : ℕ) → IsUtf8 source → at + length bytes ≡ length source → drop at source ≡ bytes → bytes ≡ piece ++ rest → Framed piece
     → is_slice source at (at + length piece) ≡ true
 slice_of_piece source bytes piece rest at utf8 size here cut (first, last, behind, front, f) =
     let parts = ap length cut ∙ length-append piece rest in

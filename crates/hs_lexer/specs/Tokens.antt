@@ -1,14 +1,16 @@
 -- What it is for tokens to be those of a text, and for a fault to be its first.
-use Rattle.std.specs.Prelude.{◌≡◌, ℕ, ◌+◌, ◌<◌, ◌≤◌, true, None, Some, List, [], ◌∷◌, length}
+use Rattle.std.specs.Prelude.{◌≡◌, ℕ, ◌+◌, ◌<◌, ◌≤◌, true, None, Some, List, [], ◌∷◌, length, count_by}
 use Rattle.hs_lexer.specs.declared.token.TokenKind.{TokenKind}
+use Rattle.hs_lexer.specs.declared.token.TokenKind.TheVariants.{Word, Quoted, Number}
 use Rattle.hs_lexer.specs.declared.token.Token.{Token as Found}
 use Rattle.hs_lexer.specs.declared.lexeme.Lexeme.{Lexeme}
 use Rattle.hs_lexer.specs.declared.lexeme.Lexeme.TheVariants.{Token}
 use Rattle.hs_lexer.specs.declared.fault.LexFault.{LexFault}
 use Rattle.hs_lexer.specs.declared.fault.LexFault.TheVariants.{BadChar}
-use Rattle.hs_lexer.specs.Pieces.{begun, IsFront, IsUnfinished}
+use Rattle.hs_lexer.specs.Bytes.{is_digit}
+use Rattle.hs_lexer.specs.Pieces.{begun, IsFront, IsUnfinished, Spells}
 use Rattle.hs_lexer.specs.Reading.{fault_in, unfinished}
-use Rattle.hs_lexer.specs.Content.{is_slice}
+use Rattle.hs_lexer.specs.Content.{is_slice, is_name, name_of, written}
 
 -- white space and comments stand between tokens
 abbrev pub IsBetween : Lexeme → Type 0
@@ -44,3 +46,19 @@ AreInOrder from end (first ∷ others) = (from ≤ first.start) × (first.start 
 abbrev pub AreSlices : List ℕ → List Found → Type 0
 AreSlices source [] = Unit {0}
 AreSlices source (first ∷ others) = (is_slice source first.start first.end ≡ true) × AreSlices source others
+
+-- a number is digits, or digits with a point and digits behind it, and has at most 38 digits
+pub record IsShortNumber (number : List ℕ) : Type 0 where
+  pub spelled : Spells (Token Number) number
+  pub short : count_by is_digit number ≤ 38
+
+-- what a token of this kind says: a word and a quoted name are a name of 1 to 128 bytes without control characters
+abbrev pub IsSoundAs : TokenKind → List ℕ → Found → Type 0
+IsSoundAs Word source found = is_name (name_of source found) ≡ true
+IsSoundAs Quoted source found = is_name (name_of source found) ≡ true
+IsSoundAs Number source found = IsShortNumber (written source found)
+IsSoundAs _ source found = Unit {0}
+
+abbrev pub AreSound : List ℕ → List Found → Type 0
+AreSound source [] = Unit {0}
+AreSound source (first ∷ others) = IsSoundAs first.kind source first × AreSound source others

@@ -7,7 +7,7 @@ ghost use Rattle.hs_lexer.specs.declared.fault.LexFault.{LexFault};
 ghost use Rattle.hs_lexer.specs.Pieces.{doubled};
 ghost use Rattle.hs_lexer.specs.Content.{undoubled, unescaped, name_of, text_of, AreEscaped, IsWritten};
 ghost use Rattle.hs_lexer.specs.Reading.{tokens_of};
-ghost use Rattle.hs_lexer.specs.Tokens.{AreTokens, IsFault, AreInOrder, AreSlices};
+ghost use Rattle.hs_lexer.specs.Tokens.{AreTokens, IsFault, AreInOrder, AreSlices, AreSound};
 
 /// `tokens_of` gives tokens exactly where they are those of the text, and a fault exactly where it is the first.
 pub fn tokens_are_the_longest()
@@ -41,4 +41,9 @@ pub fn tokens_say_what_their_quotes_hold()
     ensures quoted { (text : List ℕ) (token : Token) (name : List ℕ) → token.kind ≡ kinds.Quoted → IsWritten text token (34 ∷ (doubled 34 name ++ 34 ∷ [])) → name_of text token ≡ name }
     ensures text { (text : List ℕ) (token : Token) (inside : List ℕ) → token.kind ≡ kinds.Text → IsWritten text token (39 ∷ (doubled 39 inside ++ 39 ∷ [])) → text_of text token ≡ inside }
     ensures unicode { (text : List ℕ) (token : Token) (inside means : List ℕ) → token.kind ≡ kinds.UnicodeText → IsWritten text token (85 ∷ 38 ∷ 39 ∷ (doubled 39 inside ++ 39 ∷ [])) → AreEscaped inside means → text_of text token ≡ means }
+{}
+
+/// Names in the tokens of a text have from 1 to 128 bytes and no control character, and numbers at most 38 digits.
+pub fn tokens_are_sound()
+    ensures { (text : List ℕ) (tokens : List Token) → IsUtf8 text → tokens_of text ≡ Ok tokens → AreSound text tokens }
 {}

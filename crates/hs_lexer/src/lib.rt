@@ -20,8 +20,8 @@ mod token;
 
 pub use fault::LexFault;
 pub use laws::{
-    quotes_and_escapes_are_undone, tokens_are_slices_in_order, tokens_are_the_longest,
-    tokens_are_unique, tokens_say_what_their_quotes_hold,
+    quotes_and_escapes_are_undone, tokens_are_slices_in_order, tokens_are_sound,
+    tokens_are_the_longest, tokens_are_unique, tokens_say_what_their_quotes_hold,
 };
 pub use meaning::{between_quotes, content, name, written};
 pub use scan::tokens;

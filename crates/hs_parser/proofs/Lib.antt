@@ -4,3 +4,7 @@ pub mod Parsing
 pub mod RuleEffects
 pub mod Sentences
 pub mod Typing
+pub mod Behind
+pub mod LawfulParsing
+pub mod Said
+pub mod Composing

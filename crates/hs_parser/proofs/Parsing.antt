@@ -10,7 +10,7 @@ use Rattle.hs_lexer.specs.declared.token.Token.{Token}
 use Rattle.hs_parser.specs.declared.syntax_fault.SyntaxFault.{SyntaxFault}
 use Rattle.hs_parser.specs.declared.syntax_fault.SyntaxFault.TheVariants.{At, NotOffered, Depth, NoMemory}
 use Rattle.hs_syntax.specs.Classes.{classes_of}
-use Rattle.hs_syntax.specs.Literal.{IsBuiltBy}
+use Rattle.hs_syntax.specs.Meant.{IsMeantBy}
 use Rattle.hs_parser.specs.Building.{tree_of}
 use Rattle.hs_parser.specs.Parsed.{opens_too_many, bounded_tree_of, Grown, fault_at, Parsed, Read}
 use Rattle.hs_syntax.specs.Sql.{sql}
@@ -32,7 +32,7 @@ faulted text tokens (f.At k) is = (k, is, refl)
 faulted text tokens (f.NotOffered k) is = (k, is, refl)
 faulted text tokens f.NoMemory is = tt
 
-pub read_grown : (text : List ℕ) (tokens : List Token) (items : List Item) (result : Result Stmt SyntaxFault) → IsBuiltBy (classes_of text tokens) items → Grown (bounded_tree_of text tokens items) result → Read text tokens result
+pub read_grown : (text : List ℕ) (tokens : List Token) (items : List Item) (result : Result Stmt SyntaxFault) → IsMeantBy (classes_of text tokens) items → Grown (bounded_tree_of text tokens items) result → Read text tokens result
 read_grown text tokens items (Ok statement) is grown = (items, is, grown)
 read_grown text tokens items (Err Depth) is grown = (items, is, grown)
 read_grown text tokens items (Err NoMemory) is grown = tt

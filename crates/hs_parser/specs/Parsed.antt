@@ -11,7 +11,7 @@ use Rattle.hs_parser.specs.declared.syntax_fault.SyntaxFault.{SyntaxFault}
 use Rattle.hs_parser.specs.declared.syntax_fault.SyntaxFault.TheVariants.{At, NotOffered, Depth, NoMemory}
 use Rattle.hs_parser.specs.Building.{tree_of}
 use Rattle.hs_syntax.specs.Classes.{classes_of}
-use Rattle.hs_syntax.specs.Literal.{IsBuiltBy}
+use Rattle.hs_syntax.specs.Meant.{IsMeantBy}
 use Rattle.hs_syntax.specs.Sql.{sql}
 use Rattle.hs_syntax.specs.Statement.{IsFaultOf}
 use Rattle.hs_builder.specs.Steps.{Step, stands, deep}
@@ -73,11 +73,11 @@ Parsed text tokens (Err (At p)) = (k : ℕ) × Faulty sql (classes_of text token
 Parsed text tokens (Err (NotOffered p)) = (k : ℕ) × Faulty sql (classes_of text tokens) (f.NotOffered k) × (p ≡ place_of text tokens k)
 Parsed text tokens (Err NoMemory) = Unit {0}
 
--- The same by the literal grammar: there is a tree, or one that is too deep, only for a statement, and it is what the items by which
--- that grammar reads it build; and a fault of anything else.
+-- The same by the literal grammar: there is a tree, or one that is too deep, only for a statement, and it is what the items build by
+-- which that grammar reads it and which are meant, whichever way else it reads these tokens; and a fault of anything else.
 abbrev pub Read : List ℕ → List Token → Result Stmt SyntaxFault → Type 0
-Read text tokens (Ok statement) = (items : List Item) × IsBuiltBy (classes_of text tokens) items × (bounded_tree_of text tokens items ≡ stands statement)
-Read text tokens (Err Depth) = (items : List Item) × IsBuiltBy (classes_of text tokens) items × (bounded_tree_of text tokens items ≡ deep)
+Read text tokens (Ok statement) = (items : List Item) × IsMeantBy (classes_of text tokens) items × (bounded_tree_of text tokens items ≡ stands statement)
+Read text tokens (Err Depth) = (items : List Item) × IsMeantBy (classes_of text tokens) items × (bounded_tree_of text tokens items ≡ deep)
 Read text tokens (Err (At p)) = (k : ℕ) × IsFaultOf (classes_of text tokens) (f.At k) × (p ≡ place_of text tokens k)
 Read text tokens (Err (NotOffered p)) = (k : ℕ) × IsFaultOf (classes_of text tokens) (f.NotOffered k) × (p ≡ place_of text tokens k)
 Read text tokens (Err NoMemory) = Unit {0}

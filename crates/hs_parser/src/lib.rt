@@ -12,6 +12,6 @@ mod marks;
 mod parse;
 mod syntax_fault;
 
-pub use laws::no_part_is_missing;
+pub use laws::{items_build_one_behind_another, no_part_is_missing};
 pub use parse::statement;
 pub use syntax_fault::SyntaxFault;

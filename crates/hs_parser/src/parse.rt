@@ -1,6 +1,8 @@
 // The tree of a statement's tokens.
-ghost use Rattle.std.specs.Prelude.{◌≡◌, ◌≤◌, IfOk, length};
+ghost use Rattle.std.specs.Prelude.{◌≡◌, ◌≤◌, IfOk, Ok, length};
 ghost use Rattle.hs_ast.specs.Depth.{statement_depth_of};
+ghost use Rattle.hs_ast.specs.Lawful.{IsLawful};
+ghost use Rattle.hs_lexer.specs.Reading.{tokens_of};
 ghost use Rattle.hs_parser.specs.Parsed as spec;
 
 use crate::building::build;
@@ -80,12 +82,14 @@ fn opens_too_many(text: &str, tokens: &[Token]) -> bool
 /// `At` has the place of the first token with which no statement begins any more; the text's length, where more tokens are
 /// missing. `NotOffered` has it where that token stands there in the grammar as one that isn't offered. `Depth` comes exactly
 /// for a statement whose tree is deeper than 256 or that has more than 1,024 parentheses open at one place, and `NoMemory` only
-/// where memory is refused.
+/// where memory is refused. Where the tokens are those that the lexer reads in this text, the names, numbers and types of the tree
+/// are lawful.
 #[tactic(auto, using(crate::proofs::Parsing::grown, crate::proofs::Parsing::faulted, crate::proofs::Parsing::read_grown, crate::proofs::Parsing::read_faulted, crate::proofs::Parsing::fits))]
 pub fn statement(alloc: Global, text: &str, tokens: &Tokens) -> Result<Stmt, SyntaxFault>
     ensures statement { spec.Read text.now tokens.now result }
     ensures tree { spec.Parsed text.now tokens.now result }
     ensures depth { IfOk result (λ statement. statement_depth_of statement ≤ 256) }
+    ensures lawful { tokens_of text.now ≡ Ok tokens.now → IfOk result (λ statement. IsLawful statement) }
 {
     let list = tokens.as_slice();
     let classes = classes(alloc, text, list)?;

@@ -11,6 +11,7 @@ mod texts_of_statements;
 use hs_ast::{Identifier, Literal, Stmt, Word};
 use hs_lexer::{LexFault, tokens};
 use hs_parser::{SyntaxFault, statement};
+use hs_syntax::{is_reserved, law_of_one_reading};
 use shape::Shape;
 use std::alloc::Global;
 use std::process::Abort;
@@ -204,5 +205,19 @@ fn words_are_texts(rt: HostRuntime) -> Result<(), Fail> {
     assert_eq!(rt; copied.at, 7);
     let literal = Literal::Date(word);
     assert!(rt; matches!(&literal.copy(rt.alloc())?, Literal::Date(_)));
+    Ok(())
+}
+
+#[test]
+fn words_are_reserved(rt: HostRuntime) -> Result<(), Fail> {
+    for word in ["SELECT", "select", "Float", "TRUE", "INTERVAL"] {
+        assert!(rt; is_reserved(word.as_bytes()), "{word}");
+    }
+    for word in [
+        "ACTION", "action", "WORK", "NUMBER", "TYPE", "T", "_SELECT", "",
+    ] {
+        assert!(rt; !is_reserved(word.as_bytes()), "{word}");
+    }
+    law_of_one_reading();
     Ok(())
 }

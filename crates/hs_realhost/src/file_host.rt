@@ -1,11 +1,12 @@
 // The host of a program: standard input, standard output, and files.
-ghost use Rattle.std.specs.Prelude.{◌≡◌, [], is_some, string_bytes, IfOk, Ok, None, false, refl};
+ghost use Rattle.std.specs.Prelude.{◌≡◌, [], ◌<◌, is_some, string_bytes, IfOk, Ok, None, true, false, refl};
 ghost use Rattle.std.specs.Option.{option_map};
 ghost use Rattle.std.proofs.Common.{◌∙◌};
 ghost use Rattle.hs_host.specs.Host.{HasCause};
 ghost use Rattle.hs_realhost.specs.Standing.{standing_of, no_files, no_history};
 
-use crate::database_files::DatabaseFiles;
+use crate::database_files::{DatabaseFiles, OpenFault};
+use crate::reason::{Failure, Place, Reason};
 use crate::streams::{read_from, write_to};
 use hs_host::{FileKind, Host, HostFault, MountFault, Source};
 use std::alloc::Global;
@@ -16,10 +17,11 @@ use std::rt::Files;
 
 /// A reader for the input, a writer for the output, and the files of a database once it is mounted.
 ///
-/// `Foreign` is answered where `name.properties` stands beside the files. `mount` answers `Fault` also where another
-/// host has these files, and holds them for this host alone as long as it lives. A call on a file answers `Fault`
-/// where the system refuses it, and for a write that would make a file longer than 2^62 bytes. Once a `sync` has failed,
-/// each later one answers `Fault` too. A call that a signal interrupts is made again.
+/// `Foreign` is answered where `name.properties` stands beside the files, and where `name.log` is a file that isn't empty
+/// and none of the other four is there. `mount` answers `Fault` also where another host has these files, and holds them
+/// for this host alone as long as it lives. A call on a file answers `Fault` where the system refuses it, and for a write
+/// that would make a file longer than 2^62 bytes, or than the process is allowed. Once a `sync` has failed, each later one
+/// answers `Fault` too. A call that a signal interrupts is made again.
 #[derive(Drop)]
 pub struct FileHost<'a, F: Files<File = File>, R: Read + Drop, W: Write + Drop> {
     alloc: Global,
@@ -33,6 +35,15 @@ pub struct FileHost<'a, F: Files<File = File>, R: Read + Drop, W: Write + Drop> 
     input_faults: u64,
     output_faults: u64,
     disk_faults: u64,
+    // The newest call of each device that failed.
+    input_failure: Option<Failure>,
+    output_failure: Option<Failure>,
+    disk_failure: Option<Failure>,
+    // The file by which the files are another program's.
+    foreign: Option<Place>,
+    ghost input_told: { 0 < input_faults → is_some input_failure ≡ true },
+    ghost output_told: { 0 < output_faults → is_some output_failure ≡ true },
+    ghost disk_told: { 0 < disk_faults → is_some disk_failure ≡ true },
 }
 
 impl<'a, F: Files<File = File>, R: Read + Drop, W: Write + Drop> FileHost<'a, F, R, W> {
@@ -54,19 +65,70 @@ impl<'a, F: Files<File = File>, R: Read + Drop, W: Write + Drop> FileHost<'a, F,
             input_faults: 0,
             output_faults: 0,
             disk_faults: 0,
+            input_failure: None,
+            output_failure: None,
+            disk_failure: None,
+            foreign: None,
+        }
+    }
+
+    /// Why the newest call that failed of the input did, where one has.
+    pub fn input_reason(&self) -> Option<Reason<'_>>
+        ensures { 0 < ⟦<FileHost<'a, F, R, W> as Source>⟧.input_faults self.now → is_some result ≡ true }
+    {
+        let failure = self.input_failure?;
+        Some(Reason::new("", failure))
+    }
+
+    /// Why the newest call that failed of the output did, where one has.
+    pub fn output_reason(&self) -> Option<Reason<'_>>
+        ensures { 0 < ⟦<FileHost<'a, F, R, W> as Host>⟧.output_faults self.now → is_some result ≡ true }
+    {
+        let failure = self.output_failure?;
+        Some(Reason::new("", failure))
+    }
+
+    /// Why the newest call that failed of the files did, where one has, with the file's name.
+    pub fn disk_reason(&self) -> Option<Reason<'_>>
+        ensures { 0 < ⟦<FileHost<'a, F, R, W> as Host>⟧.disk_faults self.now → is_some result ≡ true }
+    {
+        let failure = self.disk_failure?;
+        Some(Reason::new(self.name(), failure))
+    }
+
+    /// The file by which `mount` saw that the files are another program's, without the name of the database.
+    pub fn foreign_ending(&self) -> &'static str {
+        match self.foreign {
+            Some(place) => place.ending(),
+            None => "",
+        }
+    }
+
+    /// The name of the database, and nothing before it is mounted.
+    pub fn name(&self) -> &str {
+        match &self.name {
+            Some(name) => name.as_str(),
+            None => "",
         }
     }
 }
 
-// Counts a call that failed.
-fn counted<T>(faults: &mut u64, outcome: io::Result<T>) -> Result<T, HostFault>
+// Counts a call that failed, and keeps why it did.
+fn counted<T>(
+    faults: &mut u64,
+    failure: &mut Option<Failure>,
+    place: Place,
+    outcome: io::Result<T>,
+) -> Result<T, HostFault>
     ensures ok { IfOk result (λ x. outcome ≡ Ok x) }
     ensures cause { HasCause faults.old faults.new result }
+    ensures told { (0 < faults.old → is_some failure.old ≡ true) → 0 < faults.new → is_some failure.new ≡ true }
 {
     match outcome {
         Ok(x) => Ok(x),
-        Err(_) => {
+        Err(error) => {
             *faults = faults.saturating_add(1);
+            *failure = Some(Failure { place, error });
             Err(HostFault::Fault)
         }
     }
@@ -93,7 +155,12 @@ impl<'a, F: Files<File = File>, R: Read + Drop, W: Write + Drop> Source for File
 
     fn read_input(&mut self, buf: &mut [u8]) -> Result<usize, HostFault> {
         let outcome = read_from(&mut self.reader, buf);
-        counted(&mut self.input_faults, outcome)
+        counted(
+            &mut self.input_faults,
+            &mut self.input_failure,
+            Place::Input,
+            outcome,
+        )
     }
 }
 
@@ -128,9 +195,18 @@ impl<'a, F: Files<File = File>, R: Read + Drop, W: Write + Drop> Host for FileHo
 
     fn write_output(&mut self, bytes: &[u8]) -> Result<usize, HostFault> {
         let outcome = write_to(&mut self.writer, bytes);
-        let taken = counted(&mut self.output_faults, outcome)?;
+        let taken = counted(
+            &mut self.output_faults,
+            &mut self.output_failure,
+            Place::Output,
+            outcome,
+        )?;
         if taken == 0 && !bytes.is_empty() {
             self.output_faults = self.output_faults.saturating_add(1);
+            self.output_failure = Some(Failure {
+                place: Place::Output,
+                error: io::Error::new(io::ErrorKind::WriteZero, "took nothing"),
+            });
         }
         Ok(taken)
     }
@@ -145,37 +221,59 @@ impl<'a, F: Files<File = File>, R: Read + Drop, W: Write + Drop> Host for FileHo
                 self.files = Some(files);
                 Ok(())
             }
-            Err(MountFault::Foreign) => {
+            Err(OpenFault::Foreign(place)) => {
                 self.name = Some(kept);
+                self.foreign = Some(place);
                 Err(MountFault::Foreign)
             }
-            Err(MountFault::Fault) => {
+            Err(OpenFault::Failed(failure)) => {
                 self.name = Some(kept);
                 self.disk_faults = self.disk_faults.saturating_add(1);
+                self.disk_failure = Some(failure);
                 Err(MountFault::Fault)
             }
-            Err(MountFault::NoMemory) => Err(MountFault::NoMemory),
+            Err(OpenFault::NoMemory) => Err(MountFault::NoMemory),
         }
     }
 
     fn len(&mut self, file: FileKind) -> Result<u64, HostFault> {
         let outcome = self.files.as_ref().unwrap().len(file);
-        counted(&mut self.disk_faults, outcome)
+        counted(
+            &mut self.disk_faults,
+            &mut self.disk_failure,
+            Place::File(file),
+            outcome,
+        )
     }
 
     fn read(&mut self, file: FileKind, at: u64, buf: &mut [u8]) -> Result<(), HostFault> {
         let outcome = self.files.as_ref().unwrap().read(file, at, buf);
-        counted(&mut self.disk_faults, outcome)
+        counted(
+            &mut self.disk_faults,
+            &mut self.disk_failure,
+            Place::File(file),
+            outcome,
+        )
     }
 
     fn write(&mut self, file: FileKind, at: u64, bytes: &[u8]) -> Result<(), HostFault> {
         let outcome = self.files.as_ref().unwrap().write(file, at, bytes);
-        counted(&mut self.disk_faults, outcome)
+        counted(
+            &mut self.disk_faults,
+            &mut self.disk_failure,
+            Place::File(file),
+            outcome,
+        )
     }
 
     fn cut(&mut self, file: FileKind, len: u64) -> Result<(), HostFault> {
         let outcome = self.files.as_ref().unwrap().cut(file, len);
-        counted(&mut self.disk_faults, outcome)
+        counted(
+            &mut self.disk_faults,
+            &mut self.disk_failure,
+            Place::File(file),
+            outcome,
+        )
     }
 
     fn sync(&mut self, file: FileKind) -> Result<(), HostFault> {
@@ -185,6 +283,11 @@ impl<'a, F: Files<File = File>, R: Read + Drop, W: Write + Drop> Host for FileHo
             self.files.as_ref().unwrap().sync(file)
         };
         self.has_failed_sync = outcome.is_err();
-        counted(&mut self.disk_faults, outcome)
+        counted(
+            &mut self.disk_faults,
+            &mut self.disk_failure,
+            Place::File(file),
+            outcome,
+        )
     }
 }

@@ -5,8 +5,10 @@
 
 mod database_files;
 mod file_host;
+mod reason;
 mod streams;
 #[cfg(test)]
 mod tests;
 
 pub use file_host::FileHost;
+pub use reason::Reason;

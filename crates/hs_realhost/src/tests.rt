@@ -3,8 +3,10 @@
 ghost use Rattle.std.specs.Prelude.{◌≡◌};
 ghost use Rattle.hs_host.specs.Files.{IsOpen};
 
-use crate::FileHost;
+use crate::database_files::allowed_by;
+use crate::{FileHost, Reason};
 use hs_host::{FileKind, Host, HostFault, MountFault, Source};
+use std::alloc::{AllocError, Global};
 use std::io::{Read, Write};
 use std::os::unix::fs::symlink;
 use std::test::Fail;
@@ -159,6 +161,16 @@ fn leaves_other_files_alone(rt: HostRuntime) -> Result<(), Fail> {
         let path = format!(in alloc; "{folder}/a{ending}")?;
         assert!(rt; !fs::exists(&rt, path.as_str())?);
     }
+    let lone = format!(in alloc; "{folder}/lone.log")?;
+    fs::write(&rt, lone.as_str(), "a line")?;
+    assert_eq!(rt;
+        mounted(&rt, folder.as_str(), "lone")?,
+        Err(MountFault::Foreign)
+    );
+    let beside = format!(in alloc; "{folder}/lone.backup")?;
+    assert!(rt; !fs::exists(&rt, beside.as_str())?);
+    fs::write(&rt, beside.as_str(), "")?;
+    assert_eq!(rt; mounted(&rt, folder.as_str(), "lone")?, Ok(()));
     let path = format!(in alloc; "{folder}/b.data")?;
     fs::create_dir(&rt, path.as_str())?;
     assert_eq!(rt; mounted(&rt, folder.as_str(), "b")?, Err(MountFault::Fault));
@@ -168,6 +180,13 @@ fn leaves_other_files_alone(rt: HostRuntime) -> Result<(), Fail> {
     );
     assert_eq!(rt;
         mounted(&rt, folder.as_str(), "a.properties/d")?,
+        Err(MountFault::Fault)
+    );
+    assert_eq!(rt; mounted(&rt, folder.as_str(), "")?, Err(MountFault::Fault));
+    let nowhere = format!(in alloc; "{folder}/dead.script")?;
+    symlink(&rt, "nowhere", nowhere.as_str())?;
+    assert_eq!(rt;
+        mounted(&rt, folder.as_str(), "dead")?,
         Err(MountFault::Fault)
     );
     fs::remove_dir_all(&rt, folder.as_str())?;
@@ -224,6 +243,44 @@ impl Write for OneByte {
     fn flush(&mut self) -> io::Result<()> {
         Ok(())
     }
+}
+
+fn words_of(alloc: Global, reason: Option<Reason<'_>>) -> Result<String, AllocError> {
+    match reason {
+        Some(reason) => format!(in alloc; "{reason}"),
+        None => Ok(String::new(alloc)),
+    }
+}
+
+#[test]
+fn a_failing_call_has_its_reason(rt: HostRuntime) -> Result<(), Fail> {
+    let alloc = rt.alloc();
+    let folder = make_folder(&rt, "reason")?;
+    let name = format!(in alloc; "{folder}/db")?;
+    let pages = format!(in alloc; "{folder}/db.data")?;
+    symlink(&rt, "/dev/null", pages.as_str())?;
+    let mut host = FileHost::new(alloc, &rt, OneByte::after(0), OneByte::after(0));
+    assert!(rt; host.mount(name.as_str()).is_ok());
+    assert!(rt; host.disk_reason().is_none());
+    assert_eq!(rt; host.sync(FileKind::Data), Err(HostFault::Fault));
+    let said = words_of(alloc, host.disk_reason())?;
+    let wanted = format!(in alloc; "{name}.data: Invalid argument (os error 22)")?;
+    assert_eq!(rt; said.as_str(), wanted.as_str());
+    assert!(rt; host.input_reason().is_none() && host.output_reason().is_none());
+    fs::remove_dir_all(&rt, folder.as_str())?;
+    Ok(())
+}
+
+#[test]
+fn limits_are_read(rt: HostRuntime) {
+    let told = b"Limit                     Soft Limit           Hard Limit           Units\n\
+        Max cpu time              unlimited            unlimited            seconds\n\
+        Max file size             65536                unlimited            bytes\n";
+    assert_eq!(rt; allowed_by(told), 65_536);
+    let none = b"Max file size             unlimited            unlimited            bytes\n";
+    assert_eq!(rt; allowed_by(none), u64::MAX);
+    assert_eq!(rt; allowed_by(b"Max file size"), u64::MAX);
+    assert_eq!(rt; allowed_by(b""), u64::MAX);
 }
 
 #[test]

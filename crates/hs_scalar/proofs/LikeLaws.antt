@@ -1,22 +1,11 @@
 -- What LIKE means, in pieces of the text.
 use Rattle.std.proofs.Common.{◌≡◌, ◌↔◌, ℕ, List, [], ◌∷◌, ◌++◌, Bool, true, ◌==◌, length, inl, inr, refl, sym, ◌∙◌, ap, arith}
-use Rattle.std.specs.Prelude.{⊤}
 use Rattle.std.specs.List.{AllZip, concat}
 use Rattle.std.proofs.lemmas.Bool.{eqb-true, eq-eqb}
 use Rattle.hs_scalar.specs.declared.pattern.Item.{Item}
 use Rattle.hs_scalar.specs.declared.pattern.Item.TheVariants.{AnyRun, AnyCharacter, This}
-use Rattle.hs_scalar.specs.Like.{matches, some_end_passes}
+use Rattle.hs_scalar.specs.Like.{matches, some_end_passes, Fits, IsLike}
 use Rattle.hs_scalar.proofs.LikeLemmas.{matches_fitting, and_first, and_second, or_cases, or_second, some_end_from_whole}
-
--- the pieces of a text that an item may stand for
-abbrev pub Fits : Item → List ℕ → Type 0
-Fits AnyRun piece = ⊤
-Fits AnyCharacter piece = length piece ≡ 1
-Fits (This c) piece = piece ≡ c ∷ []
-
--- the characters are pieces in a row, one for each item, which fits it
-abbrev pub IsLike : List Item → List ℕ → Type 0
-IsLike items cs = (pieces : List (List ℕ)) × AllZip Fits items pieces × (concat pieces ≡ cs)
 
 -- an end that passes, and what stands before it
 some_end_split : (test : List ℕ → Bool) (cs : List ℕ) → some_end_passes test cs ≡ true → (front : List ℕ) × (end : List ℕ) × (front ++ end ≡ cs) × (test end ≡ true)

@@ -1,5 +1,6 @@
 -- LIKE: a pattern is a list of items, and a text is like it if the items stand for its characters in order.
-use Rattle.std.specs.Prelude.{ℕ, Bool, true, false, List, [], ◌∷◌, ◌==◌, ◌&&◌, ◌||◌, if◌then◌else◌}
+use Rattle.std.specs.Prelude.{◌≡◌, ℕ, Bool, true, false, ⊤, List, [], ◌∷◌, length, ◌==◌, ◌&&◌, ◌||◌, if◌then◌else◌}
+use Rattle.std.specs.List.{AllZip, concat}
 use Rattle.std.specs.declared.option.Option.{Option}
 use Rattle.std.specs.declared.option.Option.TheVariants.{None, Some}
 use Rattle.std.specs.Str.{chars}
@@ -27,7 +28,7 @@ some_end_passes test [] = test []
 some_end_passes test (c ∷ cs) = test (c ∷ cs) || some_end_passes test cs
 
 -- whether the items stand for the characters, where behind any run some end of them is left: just where the characters are pieces
--- in a row that fit the items, as `IsLike-matches` of `proofs/LikeLaws.antt` says
+-- in a row that fit the items, as the law `a_text_is_like_its_pieces` says
 unfoldable pub matches : List Item → List ℕ → Bool
 matches [] [] = true
 matches [] (c ∷ cs) = false
@@ -46,3 +47,15 @@ stands_for (This d) c = c == d
 -- whether a text is like a pattern
 abbrev pub like_of : List ℕ → List ℕ → Option ℕ → Bool
 like_of text pattern escape = matches (items_of escape (chars pattern)) (chars text)
+
+-- ---- in the text's own terms
+
+-- the pieces of a text that an item may stand for
+abbrev pub Fits : Item → List ℕ → Type 0
+Fits AnyRun piece = ⊤
+Fits AnyCharacter piece = length piece ≡ 1
+Fits (This c) piece = piece ≡ c ∷ []
+
+-- the characters are pieces in a row, one for each item, which fits it
+abbrev pub IsLike : List Item → List ℕ → Type 0
+IsLike items cs = (pieces : List (List ℕ)) × AllZip Fits items pieces × (concat pieces ≡ cs)

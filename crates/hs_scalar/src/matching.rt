@@ -22,7 +22,9 @@ pub(crate) enum Attempt<'a> {
 
 /// Whether the text is like the pattern: LIKE of SQL. In the pattern `%` stands for any run of
 /// characters and `_` for one character, and a character behind the escape, if there is one, for
-/// itself, as does an escape at the end. The escape may be `%` or `_`, which then acts as escape.
+/// itself, as does an escape at the end. The escape may be `%` or `_`, which then acts as escape. A text is
+/// like a pattern exactly where it is pieces in a row, one for each item, which fits it, as
+/// [`a_text_is_like_its_pieces`](crate::laws::a_text_is_like_its_pieces) says.
 /// Takes no memory, and time in the product of the two lengths at most.
 pub fn like(text: &str, pattern: &str, escape: Option<char>) -> bool
     ensures { result ≡ like_of text.now pattern.now escape }

@@ -1,5 +1,5 @@
 // Worked cases, each with the value that it must give. A line is a case, and a bar parts its fields.
-use super::{Side, char_length, concat, like, lower, substring, trim, upper};
+use super::{Side, char_length, concat, laws, like, lower, substring, trim, upper};
 use std::test::Fail;
 
 // A text, a pattern, an escape or nothing, and whether the text is like the pattern.
@@ -169,5 +169,6 @@ fn whole_texts(rt: HostRuntime) -> Result<(), Fail> {
         let (a, b, want, _) = fields(line);
         assert_eq!(rt; concat(rt.alloc(), a, b)?.as_str(), want);
     }
+    laws::a_text_is_like_its_pieces();
     Ok(())
 }

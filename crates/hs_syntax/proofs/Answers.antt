@@ -1,19 +1,25 @@
 -- The recogniser's answers in terms of the literal grammar.
-use Rattle.std.proofs.Common.{ℕ, Result, Ok, Err, MatchResult, List, [], ◌∷◌, ◌++◌, take, drop}
+use Rattle.std.proofs.Common.{ℕ, subst, ◌∙◌, Result, Ok, Err, MatchResult, List, [], ◌∷◌, ◌++◌, take, drop}
 use Rattle.hs_grammar.specs.declared.types.Item.{Item}
 use Rattle.hs_grammar.specs.declared.types.Fault.{Fault}
 use Rattle.hs_grammar.specs.declared.types.Fault.TheVariants as F
 use Rattle.hs_grammar.specs.Grammar.{Begins}
 use Rattle.hs_grammar.specs.Answer.{Only, First, Leaves, Refuses, Faulty}
-use Rattle.hs_syntax.specs.Literal.{IsBuiltBy, IsStatement}
+use Rattle.hs_syntax.specs.Literal.{IsStatement}
+use Rattle.hs_syntax.specs.Meant.{MeantAs, IsMeantBy}
 use Rattle.hs_syntax.specs.Statement.{table_grammar, NoneGoesOn, LeavesAt, IsRefusedAt, IsFaultOf}
 use Rattle.hs_syntax.proofs.Written.{written}
 use Rattle.hs_syntax.proofs.WrittenTo.{written_to}
-use Rattle.hs_syntax.proofs.Derived.{derived}
+use Rattle.hs_syntax.proofs.Derived.{derived, derived_as}
+use Rattle.hs_syntax.proofs.Meant.{same_tokens}
 use Rattle.hs_syntax.proofs.DerivedTo.{derived_to}
 
-pub is_built : (ts : List ℕ) (m : List Item) → Only table_grammar ts m → IsBuiltBy ts m
-is_built ts m h = (written m h.sentence, h.spelt)
+-- every reading of the tokens is meant as the only sentence with them
+pub is_meant : (ts : List ℕ) (m : List Item) → Only table_grammar ts m → IsMeantBy ts m
+is_meant ts m h = record {
+  built = (written m h.sentence, h.spelt);
+  meant = λ other b. let d = derived_as other b.0 in subst (λ x. MeantAs other x) (h.alone d.0 d.1 (same_tokens d.2 ∙ b.1)) d.2;
+}
 
 begins : (front : List ℕ) → Begins table_grammar front → (more : List ℕ) × IsStatement (front ++ more)
 begins front b = (b.1, (b.0, (written b.0 b.2, b.3)))
@@ -39,6 +45,6 @@ is_fault_of ts (F.NotOffered p) h = (leaves_at ts p h.0, refused_to (take p ts) 
 is_fault_of ts F.NoMemory h = tt
 
 pub answered : {V : Type 0} (items : V → List Item) (ts : List ℕ) (r : Result V Fault) → MatchResult r (λ v. Only table_grammar ts (items v)) (λ e. Faulty table_grammar ts e)
-    → MatchResult r (λ v. IsBuiltBy ts (items v)) (λ e. IsFaultOf ts e)
-answered items ts (Ok v) h = is_built ts (items v) h
+    → MatchResult r (λ v. IsMeantBy ts (items v)) (λ e. IsFaultOf ts e)
+answered items ts (Ok v) h = is_meant ts (items v) h
 answered items ts (Err e) h = is_fault_of ts e h

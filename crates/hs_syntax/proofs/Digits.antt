@@ -5,6 +5,7 @@ use Rattle.std.proofs.lemmas.Bool.Decides.{eqb_tells, nat_tests}
 use Rattle.hs_lexer.specs.Bytes.{is_digit}
 use Rattle.hs_lexer.specs.Content.{undoubled}
 use Rattle.hs_syntax.specs.Classes.{value_after, whole_class, text_class}
+use Rattle.hs_syntax.specs.Names.{above}
 
 value_grows : (value : ℕ) (digits : List ℕ) → value ≤ value_after value digits
 value_grows value [] = omega arith
@@ -15,12 +16,12 @@ value_behind value i [] within = absurd (omega arith)
 value_behind value zero (digit ∷ digits) within = refl
 value_behind value (suc i) (digit ∷ digits) within = let e : suc i + 1 ≡ suc (i + 1) = omega arith in rw e (value_behind value i digits (omega arith))
 
-wide_class : (n : ℕ) → 4000 < n → 41 ≡ whole_class n
+wide_class : (n : ℕ) → 4000 < n → above ≡ whole_class n
 wide_class n wide = grind (arith, nat_tests)
 
 -- a number is above 4,000 as soon as its first digits are
 pub too_wide : (value i next : ℕ) (digits : List ℕ) → i < length digits → value_after value (drop i digits) ≡ value_after 0 digits
-    → next ≡ value * 10 + (get_or digits i 0 - 48) → 4000 < next → 41 ≡ whole_class (value_after 0 digits)
+    → next ≡ value * 10 + (get_or digits i 0 - 48) → 4000 < next → above ≡ whole_class (value_after 0 digits)
 too_wide value i next digits within means is wide =
     let all : value_after 0 digits ≡ value_after next (drop (i + 1) digits) = sym means ∙ value_behind value i digits within ∙ ap (λ z. value_after z (drop (i + 1) digits)) (sym is) in
     wide_class (value_after 0 digits) (omega (arith, all, value_grows next (drop (i + 1) digits)))

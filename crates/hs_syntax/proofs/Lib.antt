@@ -2,8 +2,12 @@ pub mod Answers
 pub mod Derived
 pub mod DerivedTo
 pub mod Digits
+pub mod Firsts
 pub mod Letters
 pub mod LiteralRuns
+pub mod Meant
+pub mod NameOrReserved
+pub mod OneReading
 pub mod Rewriting
 pub mod Runs
 pub mod RunsTo

@@ -1,11 +1,12 @@
 -- Where parts give way to others, what is written stays; and the test of a script that rewrites them.
-use Rattle.std.proofs.Common.{◌≡◌, ℕ, zero, suc, Bool, true, false, ◌&&◌, eqb, ltb, T, Option, Some, None, List, [], ◌∷◌, ◌++◌, length, refl, ap, sym, ◌∙◌, subst, append_assoc}
+use Rattle.std.proofs.Common.{◌≡◌, ℕ, zero, suc, Bool, true, false, ◌&&◌, eqb, ltb, T, Option, Some, None, List, [], ◌∷◌, ◌++◌, length, get_or, ◌+◌, refl, ap, sym, ◌∙◌, subst, append_assoc}
 use Rattle.std.proofs.Math.Facts.{eqb_yes, ltb_yes}
 use Rattle.hs_grammar.proofs.Sets.{and_left, and_right}
 use Rattle.hs_grammar.specs.Grammar.{Extent, refused}
 use Rattle.hs_grammar.specs.declared.types.Item.{Item}
 use Rattle.hs_grammar.specs.declared.types.Item.TheVariants as I
 use Rattle.hs_syntax.specs.Names.{comma}
+use Rattle.hs_syntax.proofs.Firsts.{firsts}
 use Rattle.hs_syntax.specs.Marks.{number}
 use Rattle.hs_syntax.specs.Literal.{Part, word, span, scaled, mark, rule, productions, production, Writes, ends, takes, takes_one, takes_scaled, builds, goes_on, refuses}
 
@@ -42,12 +43,16 @@ inside a b h x t ext w d = subst (λ z. Writes ext z w) (sym (append_assoc x a t
 
 -- ---- steps that compute
 
+-- at this place, by this alternative of the rule that stands there
 pub record Step : Type 0 where
   pub at : ℕ
   pub by : ℕ
 
 abbrev pub step : ℕ → ℕ → Step
-step i p = record { at = i; by = p }
+step i k = record { at = i; by = k }
+
+abbrev pub alternative : ℕ → ℕ → ℕ
+alternative n k = get_or firsts n 0 + k
 
 abbrev pub with_first : Part → Option (List Part) → Option (List Part)
 with_first x None = None
@@ -60,7 +65,7 @@ if_same false a = None
 -- the parts, with the rule at place i giving way
 abbrev pub replaced : List Part → ℕ → ℕ → Option (List Part)
 replaced [] i p = None
-replaced (rule n ∷ a) zero p = if_same (ltb p (length productions) && eqb (production p).from n) ((production p).parts ++ a)
+replaced (rule n ∷ a) zero k = let p = alternative n k in if_same (ltb p (length productions) && eqb (production p).from n) ((production p).parts ++ a)
 replaced (word c ∷ a) zero p = None
 replaced (span i j ∷ a) zero p = None
 replaced (scaled ∷ a) zero p = None
@@ -82,7 +87,8 @@ same_of false a b e = cc
 
 replaced_gives : (a b : List Part) (i p : ℕ) → replaced a i p ≡ Some b → (t : List Part) → Gives (a ++ t) (b ++ t)
 replaced_gives [] b i p e t = cc
-replaced_gives (rule n ∷ a) b zero p e t = λ ext w d.
+replaced_gives (rule n ∷ a) b zero i e t = λ ext w d.
+    let p = alternative n i in
     let k = same_of (ltb p (length productions) && eqb (production p).from n) ((production p).parts ++ a) b e in
     goes_on p (ltb_yes (and_left (ltb p (length productions)) (eqb (production p).from n) k.0)) (eqb_yes (and_right (ltb p (length productions)) (eqb (production p).from n) k.0))
     (subst (λ z. Writes ext z w) (append_assoc (production p).parts a t) (subst (λ z. Writes ext (z ++ t) w) (sym k.1) d))

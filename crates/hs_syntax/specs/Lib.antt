@@ -2,7 +2,9 @@ pub mod Classes
 pub mod Letters
 pub mod Literal
 pub mod Marks
+pub mod Meant
 pub mod Names
+pub mod Reserved
 pub mod Rows
 pub mod Sql
 pub mod Statement

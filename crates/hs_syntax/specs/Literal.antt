@@ -1,12 +1,13 @@
 -- The grammar of the statements as one reads it, with the steps that build their trees, made by grammar/make_literal.py from
--- grammar/literal.g. In the lines above the rules, which say the same by tokens alone, `[ ]` may be left out and `{ }` may be
--- repeated or left out; what is in them has rules of its own, behind the rule that it stands in.
+-- grammar/literal.g. In the lines above the rules, which say the same by tokens alone, `[ ]` may be left out, `{ }` may be
+-- repeated or left out, a symbol stands in quotes, and w(a..b) is a whole number from a to b; what is in brackets has rules of
+-- its own, behind the rule that it stands in.
 use Rattle.std.specs.Prelude.{◌≡◌, ℕ, ◌<◌, ◌≤◌, List, [], ◌∷◌, ◌++◌, length, slice_index_or}
 use Rattle.hs_grammar.specs.declared.types.Item.{Item}
 use Rattle.hs_grammar.specs.declared.types.Item.TheVariants as item
 use Rattle.hs_grammar.specs.Grammar.{Extent, whole, refused, tokens_of}
 use Rattle.hs_syntax.specs.Marks as m
-use Rattle.hs_syntax.specs.Names.{statement, CHECKPOINT, SHUTDOWN, committed, UNCOMMITTED, created, CACHED, type, BLOB, VARBINARY, control, MVLOCKS, MVCC, default_committed, write_delay, number_0, start, semicolon, semicolon_mark, query, insert, update, delete, lock, create, alter, drop, set, START, TRANSACTION, start_modes, COMMIT, work, ROLLBACK, rollback, SAVEPOINT, name, RELEASE, WORK, TO, mode, modes_more, modes, comma, ISOLATION, LEVEL, level, READ, access, ONLY, WRITE, REPEATABLE, SERIALIZABLE, COMMITTED, identifier, ACTION, AUTOCOMMIT, CHARACTERISTICS, CONTROL, DATABASE, DELAY, FILES, KEY, LOCKS, MEMORY, SESSION, names, names_more, number, fraction, text, digit_text, other_text, literal, TRUE, FALSE, NULL, DATE, TIMESTAMP, body, ordering, limiting, ORDER, BY, keys, key, keys_more, LIMIT, limit, number_1, above, offset, OFFSET, term, body_more, UNION, union, EXCEPT, ALL, core, term_more, INTERSECT, SELECT, select, VALUES, rows, left_parenthesis, right_parenthesis, distinct, items, FROM, froms, where_part, group, having, DISTINCT, star, item, items_more, from, froms_more, WHERE, e, GROUP, group_more, HAVING, es, es_more, row, rows_more, alias, AS, table, joins, INNER, JOIN, ON, LEFT, outer, CROSS, OUTER, as_part, direction, ASC, DESC, INSERT, INTO, source, contents, tuples, inserted_query, tuple, tuples_more, tuple_value, values_more, DEFAULT, query_tail, rows_of_values, behind_rows, row_of_values, rows_of_values_more, row_of_values_more, ordered, UPDATE, SET, pair, pairs_more, update_where, equal, value, DELETE, delete_where, LOCK, TABLE, claim, claims_more, claimed, CREATE, table_definition, INDEX, element, elements_more, column, table_constraint, default, column_constraints, signed_literal, plus, minus, CONSTRAINT, column_rule, NOT, PRIMARY, UNIQUE, CHECK, REFERENCES, referenced_name, actions, table_rule, FOREIGN, referenced_names, acting, action, CASCADE, set_to, RESTRICT, NO, SMALLINT, INTEGER, INT, BIGINT, DECIMAL, decimal, NUMERIC, VARCHAR, number_4000, BOOLEAN, number_38, ALTER, altered, ADD, added, DROP, COLUMN, dropped, setting, database_setting, truth, default_level, conjunction, or_more, OR, negation, and_more, AND, EXISTS, sum, compared, comparison, unequal, not_equal, less, less_or_equal, greater, greater_or_equal, IS, is, negated, BETWEEN, IN, in_part, LIKE, escape, ESCAPE, product, sum_more, addition, concatenate, unary, product_more, multiplication, slash, sign, primary, simple, intervals, interval, INTERVAL, plus_unit, minus_unit, DAY, MONTH, qualified, CAST, CASE, arms, else, END, COALESCE, NULLIF, ABS, MOD, UPPER, LOWER, CHAR_LENGTH, SUBSTRING, for, TRIM, trim, EXTRACT, field, COUNT, count, SUM, counted, AVG, MIN, MAX, point, WHEN, THEN, ELSE, FOR, LEADING, trim_side, TRAILING, BOTH, trim_tail, YEAR, HOUR, MINUTE, SECOND}
+use Rattle.hs_syntax.specs.Names.{statement, CHECKPOINT, SHUTDOWN, committed, UNCOMMITTED, created, CACHED, type, BLOB, VARBINARY, control, MVLOCKS, MVCC, default_committed, write_delay, number_0, identifier, left_parenthesis, start, semicolon, semicolon_mark, query, insert, update, delete, lock, create, alter, drop, set, START, TRANSACTION, start_modes, COMMIT, work, ROLLBACK, rollback, SAVEPOINT, name, RELEASE, WORK, TO, mode, modes_more, modes, comma, ISOLATION, LEVEL, level, READ, access, ONLY, WRITE, REPEATABLE, SERIALIZABLE, COMMITTED, ACTION, AUTOCOMMIT, CHARACTERISTICS, CONTROL, DATABASE, DELAY, FILES, KEY, LOCKS, MEMORY, SESSION, names, names_more, number, fraction, text, digit_text, other_text, literal, TRUE, FALSE, NULL, DATE, TIMESTAMP, body, ordering, limiting, ORDER, BY, keys, key, keys_more, LIMIT, limit, number_1, above, offset, OFFSET, term, body_more, UNION, union, EXCEPT, ALL, core, term_more, INTERSECT, SELECT, select, VALUES, rows, right_parenthesis, distinct, items, FROM, froms, where_part, group, having, DISTINCT, star, item, items_more, from, froms_more, WHERE, e, GROUP, group_more, HAVING, es, es_more, row, rows_more, alias, AS, table, joins, INNER, JOIN, ON, LEFT, outer, CROSS, OUTER, as_part, direction, ASC, DESC, INSERT, INTO, source, contents, tuples, inserted_query, tuple, tuples_more, tuple_value, values_more, DEFAULT, query_tail, rows_of_values, behind_rows, row_of_values, rows_of_values_more, row_of_values_more, ordered, UPDATE, SET, pair, pairs_more, update_where, equal, value, DELETE, delete_where, LOCK, TABLE, claim, claims_more, claimed, CREATE, table_definition, INDEX, element, elements_more, column, table_constraint, default, column_constraints, signed_literal, plus, minus, CONSTRAINT, column_rule, NOT, PRIMARY, UNIQUE, CHECK, REFERENCES, referenced_name, actions, table_rule, FOREIGN, referenced_names, acting, action, CASCADE, set_to, RESTRICT, NO, SMALLINT, INTEGER, INT, BIGINT, DECIMAL, decimal, NUMERIC, VARCHAR, number_4000, BOOLEAN, number_38, ALTER, altered, ADD, added, DROP, COLUMN, dropped, setting, database_setting, truth, default_level, conjunction, or_more, OR, negation, and_more, AND, EXISTS, sum, compared, comparison, unequal, not_equal, less, less_or_equal, greater, greater_or_equal, IS, is, negated, BETWEEN, IN, in_part, LIKE, escape, ESCAPE, product, sum_more, addition, concatenate, unary, product_more, multiplication, slash, sign, primary, simple, intervals, interval, INTERVAL, plus_unit, minus_unit, DAY, MONTH, qualified, CAST, CASE, arms, else, END, COALESCE, NULLIF, ABS, MOD, UPPER, LOWER, CHAR_LENGTH, SUBSTRING, for, TRIM, trim, EXTRACT, field, COUNT, count, SUM, counted, AVG, MIN, MAX, point, WHEN, THEN, ELSE, FOR, LEADING, trim_side, TRAILING, BOTH, trim_tail, YEAR, HOUR, MINUTE, SECOND}
 
 pub data Part : Type 0 where
   word : ℕ → Part  -- a token of this class
@@ -24,11 +25,13 @@ to n s = record { from = n; parts = s }
 
 abbrev pub productions : List Production
 productions =
-    -- start = statement [ ; ]
+    -- start = statement [ ';' ]
     to start (rule statement ∷ rule semicolon ∷ []) ∷
     to semicolon (word semicolon_mark ∷ []) ∷
     to semicolon ([]) ∷
-    -- statement = query | insert | .. | START TRANSACTION [ modes ] | COMMIT [ WORK ] | ROLLBACK [ WORK ] | ..
+    -- statement = query | insert | update | delete | lock | create | alter | drop | set
+    --   | START TRANSACTION [ modes ] | COMMIT [ WORK ] | ROLLBACK [ WORK ] | SAVEPOINT name | ROLLBACK TO SAVEPOINT name
+    --   | RELEASE SAVEPOINT name
     to statement (rule query ∷ mark m.query_statement ∷ []) ∷
     to statement (rule insert ∷ []) ∷
     to statement (rule update ∷ []) ∷
@@ -50,11 +53,11 @@ productions =
     to rollback (mark m.rollback ∷ []) ∷
     to start_modes (rule mode ∷ rule modes_more ∷ []) ∷
     to start_modes ([]) ∷
-    -- modes = mode { , mode }
+    -- modes = mode { ',' mode }
     to modes (mark m.modes ∷ rule mode ∷ rule modes_more ∷ []) ∷
     to modes_more (word comma ∷ rule mode ∷ rule modes_more ∷ []) ∷
     to modes_more ([]) ∷
-    -- mode = ISOLATION LEVEL level | READ ONLY | READ WRITE
+    -- mode = ISOLATION LEVEL ( READ COMMITTED | REPEATABLE READ | SERIALIZABLE ) | READ ONLY | READ WRITE
     to mode (word ISOLATION ∷ word LEVEL ∷ rule level ∷ []) ∷
     to mode (word READ ∷ rule access ∷ []) ∷
     to access (word ONLY ∷ mark m.read_only ∷ []) ∷
@@ -63,7 +66,9 @@ productions =
     to level (word REPEATABLE ∷ word READ ∷ mark m.repeatable_read ∷ []) ∷
     to level (word SERIALIZABLE ∷ mark m.serializable ∷ []) ∷
     to committed (word COMMITTED ∷ mark m.read_committed ∷ []) ∷
-    -- names, numbers, texts, literals
+    -- name = identifier | ACTION | AUTOCOMMIT | CACHED | CHARACTERISTICS | CHECKPOINT | COMMITTED | CONTROL | DATABASE | DELAY
+    --   | FILES | ISOLATION | KEY | LEVEL | LOCKS | MEMORY | MVCC | MVLOCKS | REPEATABLE | SERIALIZABLE | SESSION | SHUTDOWN
+    --   | TRANSACTION | WORK | WRITE
     to name (word identifier ∷ mark m.name ∷ []) ∷
     to name (word ACTION ∷ mark m.name ∷ []) ∷
     to name (word AUTOCOMMIT ∷ mark m.name ∷ []) ∷
@@ -89,11 +94,15 @@ productions =
     to name (word TRANSACTION ∷ mark m.name ∷ []) ∷
     to name (word WORK ∷ mark m.name ∷ []) ∷
     to name (word WRITE ∷ mark m.name ∷ []) ∷
+    -- names = name { ',' name }
     to names (rule name ∷ mark m.first_name ∷ rule names_more ∷ []) ∷
     to names_more (word comma ∷ rule name ∷ mark m.next_name ∷ rule names_more ∷ []) ∷
     to names_more ([]) ∷
+    -- number = w(0..above) | fraction
     to number (span number_0 fraction ∷ mark m.number ∷ []) ∷
+    -- text = digit_text | other_text
     to text (span digit_text other_text ∷ mark m.text ∷ []) ∷
+    -- literal = number | text | TRUE | FALSE | NULL | ( DATE | TIMESTAMP ) text
     to literal (rule number ∷ mark m.number_literal ∷ []) ∷
     to literal (rule text ∷ mark m.text_literal ∷ []) ∷
     to literal (word TRUE ∷ mark m.true_mark ∷ []) ∷
@@ -101,7 +110,7 @@ productions =
     to literal (word NULL ∷ mark m.null ∷ []) ∷
     to literal (word DATE ∷ mark m.at ∷ rule text ∷ mark m.date ∷ []) ∷
     to literal (word TIMESTAMP ∷ mark m.at ∷ rule text ∷ mark m.timestamp ∷ []) ∷
-    -- query = body [ ORDER BY key { , key } ] [ LIMIT n [ OFFSET n ] ]
+    -- query = body [ ORDER BY key { ',' key } ] [ LIMIT w(1..above) [ OFFSET w(0..above) ] ]
     to query (rule body ∷ mark m.query ∷ rule ordering ∷ rule limiting ∷ []) ∷
     to ordering (word ORDER ∷ word BY ∷ rule keys ∷ []) ∷
     to ordering ([]) ∷
@@ -124,8 +133,9 @@ productions =
     to term (rule core ∷ rule term_more ∷ []) ∷
     to term_more (word INTERSECT ∷ rule core ∷ mark m.intersect ∷ rule term_more ∷ []) ∷
     to term_more ([]) ∷
-    -- core = SELECT [ DISTINCT ] ( * | item { , item } ) FROM from { , from } [ WHERE e ] [ GROUP BY e { , e } ] [ HAVING e ]
-    --       | VALUES ( e { , e } ) { , ( e { , e } ) } | ( body )
+    -- core = SELECT [ DISTINCT ] ( '*' | item { ',' item } ) FROM from { ',' from }
+    --     [ WHERE e ] [ GROUP BY e { ',' e } ] [ HAVING e ]
+    --   | VALUES '(' e { ',' e } ')' { ',' '(' e { ',' e } ')' } | '(' body ')'
     to core (word SELECT ∷ mark m.at ∷ rule select ∷ []) ∷
     to core (word VALUES ∷ mark m.values ∷ rule rows ∷ mark m.values_body ∷ []) ∷
     to core (word left_parenthesis ∷ mark m.at ∷ rule body ∷ word right_parenthesis ∷ mark m.bracket_body ∷ []) ∷
@@ -168,7 +178,7 @@ productions =
     to joins ([]) ∷
     to outer (word OUTER ∷ []) ∷
     to outer ([]) ∷
-    -- one = name [ [ AS ] name ] | ( query ) [ AS ] name
+    -- one = name [ [ AS ] name ] | '(' query ')' [ AS ] name
     to table (rule name ∷ rule alias ∷ mark m.table ∷ []) ∷
     to table (word left_parenthesis ∷ rule query ∷ word right_parenthesis ∷ rule as_part ∷ rule name ∷ mark m.derived ∷ []) ∷
     to as_part (word AS ∷ []) ∷
@@ -178,7 +188,7 @@ productions =
     to direction (word ASC ∷ mark m.ascending ∷ []) ∷
     to direction (word DESC ∷ mark m.descending ∷ []) ∷
     to direction (mark m.ascending ∷ []) ∷
-    -- insert = INSERT INTO name [ ( name { , name } ) ] ( VALUES tuple { , tuple } | query )
+    -- insert = INSERT INTO name [ '(' name { ',' name } ')' ] ( VALUES tuple { ',' tuple } | query )
     -- Where VALUES and rows alone could be either, they are tuples: a query that begins with VALUES has something behind its rows.
     to insert (word INSERT ∷ word INTO ∷ rule name ∷ mark m.insert ∷ rule source ∷ []) ∷
     to source (word left_parenthesis ∷ mark m.at ∷ rule names ∷ word right_parenthesis ∷ mark m.insert_columns ∷ rule contents ∷ []) ∷
@@ -188,13 +198,14 @@ productions =
     to tuples (rule tuple ∷ rule tuples_more ∷ []) ∷
     to tuples_more (word comma ∷ rule tuple ∷ rule tuples_more ∷ []) ∷
     to tuples_more ([]) ∷
-    -- tuple = ( ( e | DEFAULT ) { , ( e | DEFAULT ) } )
+    -- tuple = '(' value { ',' value } ')'
+    -- value = e | DEFAULT
     to tuple (word left_parenthesis ∷ mark m.tuple ∷ rule tuple_value ∷ rule values_more ∷ word right_parenthesis ∷ mark m.add_tuple ∷ []) ∷
     to values_more (word comma ∷ rule tuple_value ∷ rule values_more ∷ []) ∷
     to values_more ([]) ∷
     to tuple_value (rule e ∷ mark m.tuple_value ∷ []) ∷
     to tuple_value (word DEFAULT ∷ mark m.tuple_default ∷ []) ∷
-    -- the query = SELECT .. | ( body ) .. | VALUES ( e { , e } ) { , ( e { , e } ) } behind_rows
+    -- The query is SELECT .., or ( body ) .., or VALUES, rows without DEFAULT, and what makes a query of them: a set operator, ORDER BY or LIMIT.
     to inserted_query (word SELECT ∷ mark m.at ∷ rule select ∷ rule query_tail ∷ []) ∷
     to inserted_query (word left_parenthesis ∷ mark m.at ∷ rule body ∷ word right_parenthesis ∷ mark m.bracket_body ∷ rule query_tail ∷ []) ∷
     to inserted_query (word VALUES ∷ mark m.tuples ∷ rule rows_of_values ∷ mark m.tuples_body ∷ rule behind_rows ∷ []) ∷
@@ -209,7 +220,7 @@ productions =
     to behind_rows (word UNION ∷ rule union ∷ rule body_more ∷ mark m.query ∷ rule ordering ∷ rule limiting ∷ []) ∷
     to behind_rows (word EXCEPT ∷ rule term ∷ mark m.except ∷ rule body_more ∷ mark m.query ∷ rule ordering ∷ rule limiting ∷ []) ∷
     to behind_rows (mark m.query ∷ rule ordered ∷ []) ∷
-    -- update = UPDATE name [ [ AS ] name ] SET name = ( e | DEFAULT ) { , name = ( e | DEFAULT ) } [ WHERE e ]
+    -- update = UPDATE name [ [ AS ] name ] SET name '=' value { ',' name '=' value } [ WHERE e ]
     to update (word UPDATE ∷ rule name ∷ rule alias ∷ mark m.update ∷ word SET ∷ rule pair ∷ rule pairs_more ∷ rule update_where ∷ mark m.update_statement ∷ []) ∷
     to pairs_more (word comma ∷ rule pair ∷ rule pairs_more ∷ []) ∷
     to pairs_more ([]) ∷
@@ -222,14 +233,14 @@ productions =
     to delete (word DELETE ∷ word FROM ∷ rule name ∷ rule alias ∷ mark m.delete ∷ rule delete_where ∷ mark m.delete_statement ∷ []) ∷
     to delete_where (word WHERE ∷ rule e ∷ mark m.delete_where ∷ []) ∷
     to delete_where ([]) ∷
-    -- lock = LOCK TABLE name ( READ | WRITE ) { , name ( READ | WRITE ) }
+    -- lock = LOCK TABLE name ( READ | WRITE ) { ',' name ( READ | WRITE ) }
     to lock (word LOCK ∷ word TABLE ∷ mark m.lock ∷ rule claim ∷ rule claims_more ∷ mark m.lock_statement ∷ []) ∷
     to claims_more (word comma ∷ rule claim ∷ rule claims_more ∷ []) ∷
     to claims_more ([]) ∷
     to claim (rule name ∷ rule claimed ∷ []) ∷
     to claimed (word READ ∷ mark m.lock_read ∷ []) ∷
     to claimed (word WRITE ∷ mark m.lock_write ∷ []) ∷
-    -- create = CREATE [ MEMORY ] TABLE name ( element { , element } ) | CREATE INDEX name ON name ( name { , name } )
+    -- create = CREATE [ MEMORY ] TABLE name '(' element { ',' element } ')' | CREATE INDEX name ON name '(' name { ',' name } ')'
     to create (word CREATE ∷ rule created ∷ []) ∷
     to created (word MEMORY ∷ word TABLE ∷ rule table_definition ∷ []) ∷
     to created (word TABLE ∷ rule table_definition ∷ []) ∷
@@ -240,11 +251,12 @@ productions =
     -- element = column | table_constraint
     to element (rule column ∷ mark m.column_element ∷ []) ∷
     to element (rule table_constraint ∷ mark m.constraint_element ∷ []) ∷
-    -- column = name type [ DEFAULT literal ] { [ CONSTRAINT name ] ( NOT NULL | PRIMARY KEY | UNIQUE | CHECK ( e )
-    --         | REFERENCES name [ ( name ) ] actions ) }
+    -- column = name type [ DEFAULT signed ] { [ CONSTRAINT name ] ( NOT NULL | PRIMARY KEY | UNIQUE | CHECK '(' e ')'
+    --   | REFERENCES name [ '(' name ')' ] actions ) }
     to column (rule name ∷ rule type ∷ mark m.define ∷ rule default ∷ rule column_constraints ∷ []) ∷
     to default (word DEFAULT ∷ rule signed_literal ∷ mark m.default ∷ []) ∷
     to default ([]) ∷
+    -- signed = literal | ( '+' | '-' ) number
     to signed_literal (rule literal ∷ []) ∷
     to signed_literal (word plus ∷ mark m.at ∷ rule number ∷ mark m.plus_number ∷ []) ∷
     to signed_literal (word minus ∷ mark m.at ∷ rule number ∷ mark m.minus_number ∷ []) ∷
@@ -258,8 +270,8 @@ productions =
     to column_rule (word REFERENCES ∷ rule name ∷ mark m.references ∷ rule referenced_name ∷ rule actions ∷ mark m.column_references ∷ []) ∷
     to referenced_name (word left_parenthesis ∷ rule name ∷ mark m.first_name ∷ word right_parenthesis ∷ mark m.parent_columns ∷ []) ∷
     to referenced_name ([]) ∷
-    -- table_constraint = [ CONSTRAINT name ] ( PRIMARY KEY ( names ) | UNIQUE ( names ) | CHECK ( e )
-    --                   | FOREIGN KEY ( names ) REFERENCES name [ ( names ) ] actions )
+    -- table_constraint = [ CONSTRAINT name ] ( PRIMARY KEY '(' names ')' | UNIQUE '(' names ')' | CHECK '(' e ')'
+    --   | FOREIGN KEY '(' names ')' REFERENCES name [ '(' names ')' ] actions )
     to table_constraint (word CONSTRAINT ∷ mark m.at ∷ rule name ∷ mark m.named ∷ rule table_rule ∷ []) ∷
     to table_constraint (mark m.here ∷ mark m.unnamed ∷ rule table_rule ∷ []) ∷
     to table_rule (word PRIMARY ∷ word KEY ∷ word left_parenthesis ∷ rule names ∷ word right_parenthesis ∷ mark m.table_primary ∷ []) ∷
@@ -279,7 +291,9 @@ productions =
     to action (word NO ∷ word ACTION ∷ mark m.no_action ∷ []) ∷
     to set_to (word NULL ∷ mark m.set_null ∷ []) ∷
     to set_to (word DEFAULT ∷ mark m.set_default ∷ []) ∷
-    -- type = SMALLINT | INTEGER | INT | BIGINT | ( DECIMAL | NUMERIC ) [ ( p [ , s ] ) ] | VARCHAR ( n ) | BOOLEAN | DATE | TIMESTAMP
+    -- type = SMALLINT | INTEGER | INT | BIGINT | ( DECIMAL | NUMERIC ) [ '(' w(1..38) [ ',' w(0..38) ] ')' ]
+    --   | VARCHAR '(' w(1..4000) ')' | BOOLEAN | DATE | TIMESTAMP
+    -- A scale, the second number of DECIMAL, is at most its precision, the first.
     to type (word SMALLINT ∷ mark m.smallint ∷ []) ∷
     to type (word INTEGER ∷ mark m.integer ∷ []) ∷
     to type (word INT ∷ mark m.integer ∷ []) ∷
@@ -304,8 +318,8 @@ productions =
     to dropped (word TABLE ∷ rule name ∷ mark m.drop_table ∷ []) ∷
     to dropped (word INDEX ∷ rule name ∷ mark m.drop_index ∷ []) ∷
     -- set = SET DATABASE TRANSACTION CONTROL LOCKS | SET DATABASE DEFAULT ISOLATION LEVEL ( READ COMMITTED | SERIALIZABLE )
-    --      | SET AUTOCOMMIT ( TRUE | FALSE ) | SET TRANSACTION modes | SET SESSION CHARACTERISTICS AS TRANSACTION modes
-    --      | SET FILES WRITE DELAY FALSE
+    --   | SET AUTOCOMMIT ( TRUE | FALSE ) | SET TRANSACTION modes | SET SESSION CHARACTERISTICS AS TRANSACTION modes
+    --   | SET FILES WRITE DELAY FALSE
     to set (word SET ∷ rule setting ∷ []) ∷
     to setting (word DATABASE ∷ rule database_setting ∷ []) ∷
     to setting (word AUTOCOMMIT ∷ rule truth ∷ []) ∷
@@ -321,19 +335,21 @@ productions =
     to truth (word TRUE ∷ mark m.autocommit_true ∷ []) ∷
     to truth (word FALSE ∷ mark m.autocommit_false ∷ []) ∷
     to write_delay (word FALSE ∷ mark m.write_delay_false ∷ []) ∷
-    -- e = OR of AND of NOT of predicate
+    -- e = conjunction { OR conjunction }
     to e (rule conjunction ∷ rule or_more ∷ []) ∷
     to or_more (word OR ∷ rule conjunction ∷ mark m.or ∷ rule or_more ∷ []) ∷
     to or_more ([]) ∷
+    -- conjunction = negation { AND negation }
     to conjunction (rule negation ∷ rule and_more ∷ []) ∷
     to and_more (word AND ∷ rule negation ∷ mark m.and ∷ rule and_more ∷ []) ∷
     to and_more ([]) ∷
+    -- negation = NOT negation | predicate
     to negation (word NOT ∷ mark m.at ∷ rule negation ∷ mark m.not ∷ []) ∷
     to negation (word EXISTS ∷ mark m.at ∷ word left_parenthesis ∷ rule query ∷ word right_parenthesis ∷ mark m.exists ∷ []) ∷
     to negation (rule sum ∷ rule compared ∷ []) ∷
-    -- predicate = sum [ ( = | <> | != | < | <= | > | >= ) sum | IS [ NOT ] NULL | [ NOT ] BETWEEN sum AND sum
-    --            | [ NOT ] IN ( query | e { , e } ) | [ NOT ] LIKE sum [ ESCAPE text ] ]
-    -- Where IN ( .. ) could be both, as IN ( ( SELECT .. ) ) is, it is read as the query.
+    -- predicate = sum [ ( '=' | '<>' | '!=' | '<' | '<=' | '>' | '>=' ) sum | IS [ NOT ] NULL | [ NOT ] BETWEEN sum AND sum
+    --   | [ NOT ] IN '(' ( query | e { ',' e } ) ')' | [ NOT ] LIKE sum [ ESCAPE text ] ] | EXISTS '(' query ')'
+    -- Where IN ( .. ) could be both, as IN ( ( SELECT .. ) ) is, it is meant as the query (`MeantAs`).
     to compared (rule comparison ∷ []) ∷
     to compared ([]) ∷
     to comparison (word equal ∷ rule sum ∷ mark m.equal ∷ []) ∷
@@ -355,26 +371,26 @@ productions =
     to in_part (rule es ∷ word right_parenthesis ∷ mark m.in_list ∷ []) ∷
     to escape (word ESCAPE ∷ rule text ∷ mark m.like_escape ∷ []) ∷
     to escape (mark m.like ∷ []) ∷
-    -- sum = product { ( + | - | || ) product }
+    -- sum = product { ( '+' | '-' | '||' ) product }
     to sum (rule product ∷ rule sum_more ∷ []) ∷
     to sum_more (rule addition ∷ rule sum_more ∷ []) ∷
     to sum_more ([]) ∷
     to addition (word plus ∷ rule product ∷ mark m.add ∷ []) ∷
     to addition (word minus ∷ rule product ∷ mark m.subtract ∷ []) ∷
     to addition (word concatenate ∷ rule product ∷ mark m.concatenate ∷ []) ∷
-    -- product = unary { ( * | / ) unary }
+    -- product = unary { ( '*' | '/' ) unary }
     to product (rule unary ∷ rule product_more ∷ []) ∷
     to product_more (rule multiplication ∷ rule product_more ∷ []) ∷
     to product_more ([]) ∷
     to multiplication (word star ∷ rule unary ∷ mark m.multiply ∷ []) ∷
     to multiplication (word slash ∷ rule unary ∷ mark m.divide ∷ []) ∷
-    -- unary = [ - | + ] primary
+    -- unary = [ '-' | '+' ] primary
     to unary (rule sign ∷ []) ∷
     to unary (rule primary ∷ []) ∷
     to sign (word minus ∷ mark m.at ∷ rule primary ∷ mark m.minus ∷ []) ∷
     to sign (word plus ∷ mark m.at ∷ rule primary ∷ mark m.plus ∷ []) ∷
-    -- primary = simple | ( e ) | ( body ) | ( query that has ORDER BY or LIMIT ) | primary ( + | - ) INTERVAL 'digits' ( DAY | MONTH )
-    -- Where ( .. ) could be both ( e ) and ( body ), as ( ( SELECT .. ) ) is, it is read as ( body ).
+    -- primary = simple | '(' e ')' | '(' query ')' | primary ( '+' | '-' ) INTERVAL digit_text ( DAY | MONTH )
+    -- Where ( .. ) could be both ( e ) and ( query ), as ( ( SELECT .. ) ) is, it is meant as the query (`MeantAs`).
     to primary (rule simple ∷ rule intervals ∷ []) ∷
     to primary (word left_parenthesis ∷ mark m.at ∷ rule e ∷ word right_parenthesis ∷ mark m.bracket ∷ rule intervals ∷ []) ∷
     to primary (word left_parenthesis ∷ mark m.at ∷ rule body ∷ word right_parenthesis ∷ mark m.body_subquery ∷ rule intervals ∷ []) ∷
@@ -389,10 +405,11 @@ productions =
     to plus_unit (word MONTH ∷ mark m.plus_months ∷ []) ∷
     to minus_unit (word DAY ∷ mark m.minus_days ∷ []) ∷
     to minus_unit (word MONTH ∷ mark m.minus_months ∷ []) ∷
-    -- simple = literal | name [ . name ] | CAST ( e AS type ) | CASE { WHEN e THEN e } [ ELSE e ] END | COALESCE | NULLIF | ABS | MOD
-    --         | UPPER | LOWER | CHAR_LENGTH with ( e { , e } ) | SUBSTRING ( e FROM e [ FOR e ] )
-    --         | TRIM ( [ [ LEADING | TRAILING | BOTH ] [ e ] FROM ] e ) | EXTRACT ( field FROM e )
-    --         | COUNT ( * | [ DISTINCT ] e ) | ( SUM | AVG | MIN | MAX ) ( [ DISTINCT ] e )
+    -- simple = literal | name [ '.' name ] | CAST '(' e AS type ')' | CASE { WHEN e THEN e } [ ELSE e ] END
+    --   | ( COALESCE | NULLIF | ABS | MOD | UPPER | LOWER | CHAR_LENGTH ) '(' e { ',' e } ')'
+    --   | SUBSTRING '(' e FROM e [ FOR e ] ')' | TRIM '(' [ [ LEADING | TRAILING | BOTH ] [ e ] FROM ] e ')'
+    --   | EXTRACT '(' ( YEAR | MONTH | DAY | HOUR | MINUTE | SECOND ) FROM e ')'
+    --   | COUNT '(' ( '*' | [ DISTINCT ] e ) ')' | ( SUM | AVG | MIN | MAX ) '(' [ DISTINCT ] e ')'
     to simple (rule literal ∷ mark m.literal ∷ []) ∷
     to simple (rule name ∷ rule qualified ∷ []) ∷
     to simple (word CAST ∷ mark m.at ∷ word left_parenthesis ∷ rule e ∷ word AS ∷ rule type ∷ word right_parenthesis ∷ mark m.cast ∷ []) ∷
@@ -463,7 +480,8 @@ refusals =
     refuse control MVLOCKS MVLOCKS ∷
     refuse control MVCC MVCC ∷
     refuse default_committed UNCOMMITTED UNCOMMITTED ∷
-    refuse write_delay number_0 UNCOMMITTED ∷
+    refuse write_delay number_0 identifier ∷
+    refuse write_delay left_parenthesis UNCOMMITTED ∷
     []
 
 abbrev pub refusal : ℕ → Refusal

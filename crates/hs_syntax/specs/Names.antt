@@ -136,479 +136,479 @@ other_text = 44
 abbrev pub identifier : ℕ
 identifier = 45
 
+abbrev pub FALSE : ℕ
+FALSE = 46
+
 abbrev pub left_parenthesis : ℕ
-left_parenthesis = 46
+left_parenthesis = 47
 
 abbrev pub right_parenthesis : ℕ
-right_parenthesis = 47
+right_parenthesis = 48
 
 abbrev pub comma : ℕ
-comma = 48
+comma = 49
 
 abbrev pub point : ℕ
-point = 49
+point = 50
 
 abbrev pub star : ℕ
-star = 50
+star = 51
 
 abbrev pub plus : ℕ
-plus = 51
+plus = 52
 
 abbrev pub minus : ℕ
-minus = 52
+minus = 53
 
 abbrev pub slash : ℕ
-slash = 53
+slash = 54
 
 abbrev pub equal : ℕ
-equal = 54
+equal = 55
 
 abbrev pub unequal : ℕ
-unequal = 55
+unequal = 56
 
 abbrev pub not_equal : ℕ
-not_equal = 56
+not_equal = 57
 
 abbrev pub less : ℕ
-less = 57
+less = 58
 
 abbrev pub less_or_equal : ℕ
-less_or_equal = 58
+less_or_equal = 59
 
 abbrev pub greater : ℕ
-greater = 59
+greater = 60
 
 abbrev pub greater_or_equal : ℕ
-greater_or_equal = 60
+greater_or_equal = 61
 
 abbrev pub concatenate : ℕ
-concatenate = 61
+concatenate = 62
 
 abbrev pub semicolon_mark : ℕ
-semicolon_mark = 62
+semicolon_mark = 63
 
 abbrev pub ACTION : ℕ
-ACTION = 63
+ACTION = 64
 
 abbrev pub AUTOCOMMIT : ℕ
-AUTOCOMMIT = 64
+AUTOCOMMIT = 65
 
 abbrev pub CACHED : ℕ
-CACHED = 65
+CACHED = 66
 
 abbrev pub CHARACTERISTICS : ℕ
-CHARACTERISTICS = 66
+CHARACTERISTICS = 67
 
 abbrev pub CHECKPOINT : ℕ
-CHECKPOINT = 67
+CHECKPOINT = 68
 
 abbrev pub COMMITTED : ℕ
-COMMITTED = 68
+COMMITTED = 69
 
 abbrev pub CONTROL : ℕ
-CONTROL = 69
+CONTROL = 70
 
 abbrev pub DATABASE : ℕ
-DATABASE = 70
+DATABASE = 71
 
 abbrev pub DELAY : ℕ
-DELAY = 71
+DELAY = 72
 
 abbrev pub FILES : ℕ
-FILES = 72
+FILES = 73
 
 abbrev pub ISOLATION : ℕ
-ISOLATION = 73
+ISOLATION = 74
 
 abbrev pub KEY : ℕ
-KEY = 74
+KEY = 75
 
 abbrev pub LEVEL : ℕ
-LEVEL = 75
+LEVEL = 76
 
 abbrev pub LOCKS : ℕ
-LOCKS = 76
+LOCKS = 77
 
 abbrev pub MEMORY : ℕ
-MEMORY = 77
+MEMORY = 78
 
 abbrev pub MVCC : ℕ
-MVCC = 78
+MVCC = 79
 
 abbrev pub MVLOCKS : ℕ
-MVLOCKS = 79
+MVLOCKS = 80
 
 abbrev pub REPEATABLE : ℕ
-REPEATABLE = 80
+REPEATABLE = 81
 
 abbrev pub SERIALIZABLE : ℕ
-SERIALIZABLE = 81
+SERIALIZABLE = 82
 
 abbrev pub SESSION : ℕ
-SESSION = 82
+SESSION = 83
 
 abbrev pub SHUTDOWN : ℕ
-SHUTDOWN = 83
+SHUTDOWN = 84
 
 abbrev pub TRANSACTION : ℕ
-TRANSACTION = 84
+TRANSACTION = 85
 
 abbrev pub WORK : ℕ
-WORK = 85
+WORK = 86
 
 abbrev pub WRITE : ℕ
-WRITE = 86
+WRITE = 87
 
 abbrev pub ABS : ℕ
-ABS = 87
+ABS = 88
 
 abbrev pub ADD : ℕ
-ADD = 88
+ADD = 89
 
 abbrev pub ALL : ℕ
-ALL = 89
+ALL = 90
 
 abbrev pub ALTER : ℕ
-ALTER = 90
+ALTER = 91
 
 abbrev pub AND : ℕ
-AND = 91
+AND = 92
 
 abbrev pub AS : ℕ
-AS = 92
+AS = 93
 
 abbrev pub ASC : ℕ
-ASC = 93
+ASC = 94
 
 abbrev pub AVG : ℕ
-AVG = 94
+AVG = 95
 
 abbrev pub BETWEEN : ℕ
-BETWEEN = 95
+BETWEEN = 96
 
 abbrev pub BIGINT : ℕ
-BIGINT = 96
+BIGINT = 97
 
 abbrev pub BOOLEAN : ℕ
-BOOLEAN = 97
+BOOLEAN = 98
 
 abbrev pub BOTH : ℕ
-BOTH = 98
+BOTH = 99
 
 abbrev pub BY : ℕ
-BY = 99
+BY = 100
 
 abbrev pub CASCADE : ℕ
-CASCADE = 100
+CASCADE = 101
 
 abbrev pub CASE : ℕ
-CASE = 101
+CASE = 102
 
 abbrev pub CAST : ℕ
-CAST = 102
+CAST = 103
 
 abbrev pub CHAR_LENGTH : ℕ
-CHAR_LENGTH = 103
+CHAR_LENGTH = 104
 
 abbrev pub CHECK : ℕ
-CHECK = 104
+CHECK = 105
 
 abbrev pub COALESCE : ℕ
-COALESCE = 105
+COALESCE = 106
 
 abbrev pub COLUMN : ℕ
-COLUMN = 106
+COLUMN = 107
 
 abbrev pub COMMIT : ℕ
-COMMIT = 107
+COMMIT = 108
 
 abbrev pub CONSTRAINT : ℕ
-CONSTRAINT = 108
+CONSTRAINT = 109
 
 abbrev pub COUNT : ℕ
-COUNT = 109
+COUNT = 110
 
 abbrev pub CREATE : ℕ
-CREATE = 110
+CREATE = 111
 
 abbrev pub CROSS : ℕ
-CROSS = 111
+CROSS = 112
 
 abbrev pub DATE : ℕ
-DATE = 112
+DATE = 113
 
 abbrev pub DAY : ℕ
-DAY = 113
+DAY = 114
 
 abbrev pub DECIMAL : ℕ
-DECIMAL = 114
+DECIMAL = 115
 
 abbrev pub DEFAULT : ℕ
-DEFAULT = 115
+DEFAULT = 116
 
 abbrev pub DELETE : ℕ
-DELETE = 116
+DELETE = 117
 
 abbrev pub DESC : ℕ
-DESC = 117
+DESC = 118
 
 abbrev pub DISTINCT : ℕ
-DISTINCT = 118
+DISTINCT = 119
 
 abbrev pub DROP : ℕ
-DROP = 119
+DROP = 120
 
 abbrev pub ELSE : ℕ
-ELSE = 120
+ELSE = 121
 
 abbrev pub END : ℕ
-END = 121
+END = 122
 
 abbrev pub ESCAPE : ℕ
-ESCAPE = 122
+ESCAPE = 123
 
 abbrev pub EXCEPT : ℕ
-EXCEPT = 123
+EXCEPT = 124
 
 abbrev pub EXISTS : ℕ
-EXISTS = 124
+EXISTS = 125
 
 abbrev pub EXTRACT : ℕ
-EXTRACT = 125
+EXTRACT = 126
 
 abbrev pub FOR : ℕ
-FOR = 126
+FOR = 127
 
 abbrev pub FOREIGN : ℕ
-FOREIGN = 127
+FOREIGN = 128
 
 abbrev pub FROM : ℕ
-FROM = 128
+FROM = 129
 
 abbrev pub GROUP : ℕ
-GROUP = 129
+GROUP = 130
 
 abbrev pub HAVING : ℕ
-HAVING = 130
+HAVING = 131
 
 abbrev pub HOUR : ℕ
-HOUR = 131
+HOUR = 132
 
 abbrev pub IN : ℕ
-IN = 132
+IN = 133
 
 abbrev pub INDEX : ℕ
-INDEX = 133
+INDEX = 134
 
 abbrev pub INNER : ℕ
-INNER = 134
+INNER = 135
 
 abbrev pub INSERT : ℕ
-INSERT = 135
+INSERT = 136
 
 abbrev pub INT : ℕ
-INT = 136
+INT = 137
 
 abbrev pub INTEGER : ℕ
-INTEGER = 137
+INTEGER = 138
 
 abbrev pub INTERSECT : ℕ
-INTERSECT = 138
+INTERSECT = 139
 
 abbrev pub INTERVAL : ℕ
-INTERVAL = 139
+INTERVAL = 140
 
 abbrev pub INTO : ℕ
-INTO = 140
+INTO = 141
 
 abbrev pub IS : ℕ
-IS = 141
+IS = 142
 
 abbrev pub JOIN : ℕ
-JOIN = 142
+JOIN = 143
 
 abbrev pub LEADING : ℕ
-LEADING = 143
+LEADING = 144
 
 abbrev pub LEFT : ℕ
-LEFT = 144
+LEFT = 145
 
 abbrev pub LIKE : ℕ
-LIKE = 145
+LIKE = 146
 
 abbrev pub LIMIT : ℕ
-LIMIT = 146
+LIMIT = 147
 
 abbrev pub LOCK : ℕ
-LOCK = 147
+LOCK = 148
 
 abbrev pub LOWER : ℕ
-LOWER = 148
+LOWER = 149
 
 abbrev pub MAX : ℕ
-MAX = 149
+MAX = 150
 
 abbrev pub MIN : ℕ
-MIN = 150
+MIN = 151
 
 abbrev pub MINUTE : ℕ
-MINUTE = 151
+MINUTE = 152
 
 abbrev pub MOD : ℕ
-MOD = 152
+MOD = 153
 
 abbrev pub MONTH : ℕ
-MONTH = 153
+MONTH = 154
 
 abbrev pub NO : ℕ
-NO = 154
+NO = 155
 
 abbrev pub NOT : ℕ
-NOT = 155
+NOT = 156
 
 abbrev pub NULL : ℕ
-NULL = 156
+NULL = 157
 
 abbrev pub NULLIF : ℕ
-NULLIF = 157
+NULLIF = 158
 
 abbrev pub NUMERIC : ℕ
-NUMERIC = 158
+NUMERIC = 159
 
 abbrev pub OFFSET : ℕ
-OFFSET = 159
+OFFSET = 160
 
 abbrev pub ON : ℕ
-ON = 160
+ON = 161
 
 abbrev pub ONLY : ℕ
-ONLY = 161
+ONLY = 162
 
 abbrev pub OR : ℕ
-OR = 162
+OR = 163
 
 abbrev pub ORDER : ℕ
-ORDER = 163
+ORDER = 164
 
 abbrev pub OUTER : ℕ
-OUTER = 164
+OUTER = 165
 
 abbrev pub PRIMARY : ℕ
-PRIMARY = 165
+PRIMARY = 166
 
 abbrev pub READ : ℕ
-READ = 166
+READ = 167
 
 abbrev pub REFERENCES : ℕ
-REFERENCES = 167
+REFERENCES = 168
 
 abbrev pub RELEASE : ℕ
-RELEASE = 168
+RELEASE = 169
 
 abbrev pub RESTRICT : ℕ
-RESTRICT = 169
+RESTRICT = 170
 
 abbrev pub ROLLBACK : ℕ
-ROLLBACK = 170
+ROLLBACK = 171
 
 abbrev pub SAVEPOINT : ℕ
-SAVEPOINT = 171
+SAVEPOINT = 172
 
 abbrev pub SECOND : ℕ
-SECOND = 172
+SECOND = 173
 
 abbrev pub SELECT : ℕ
-SELECT = 173
+SELECT = 174
 
 abbrev pub SET : ℕ
-SET = 174
+SET = 175
 
 abbrev pub SMALLINT : ℕ
-SMALLINT = 175
+SMALLINT = 176
 
 abbrev pub START : ℕ
-START = 176
+START = 177
 
 abbrev pub SUBSTRING : ℕ
-SUBSTRING = 177
+SUBSTRING = 178
 
 abbrev pub SUM : ℕ
-SUM = 178
+SUM = 179
 
 abbrev pub TABLE : ℕ
-TABLE = 179
+TABLE = 180
 
 abbrev pub THEN : ℕ
-THEN = 180
+THEN = 181
 
 abbrev pub TIMESTAMP : ℕ
-TIMESTAMP = 181
+TIMESTAMP = 182
 
 abbrev pub TO : ℕ
-TO = 182
+TO = 183
 
 abbrev pub TRAILING : ℕ
-TRAILING = 183
+TRAILING = 184
 
 abbrev pub TRIM : ℕ
-TRIM = 184
+TRIM = 185
 
 abbrev pub TRUE : ℕ
-TRUE = 185
+TRUE = 186
 
 abbrev pub UNION : ℕ
-UNION = 186
+UNION = 187
 
 abbrev pub UNIQUE : ℕ
-UNIQUE = 187
+UNIQUE = 188
 
 abbrev pub UPDATE : ℕ
-UPDATE = 188
+UPDATE = 189
 
 abbrev pub UPPER : ℕ
-UPPER = 189
+UPPER = 190
 
 abbrev pub VALUES : ℕ
-VALUES = 190
+VALUES = 191
 
 abbrev pub VARCHAR : ℕ
-VARCHAR = 191
+VARCHAR = 192
 
 abbrev pub WHEN : ℕ
-WHEN = 192
+WHEN = 193
 
 abbrev pub WHERE : ℕ
-WHERE = 193
+WHERE = 194
 
 abbrev pub YEAR : ℕ
-YEAR = 194
+YEAR = 195
 
 abbrev pub BLOB : ℕ
-BLOB = 195
+BLOB = 196
 
 abbrev pub CHAR : ℕ
-CHAR = 196
+CHAR = 197
 
 abbrev pub CLOB : ℕ
-CLOB = 197
+CLOB = 198
 
 abbrev pub DOUBLE : ℕ
-DOUBLE = 198
+DOUBLE = 199
 
 abbrev pub FLOAT : ℕ
-FLOAT = 199
+FLOAT = 200
 
 abbrev pub REAL : ℕ
-REAL = 200
+REAL = 201
 
 abbrev pub VARBINARY : ℕ
-VARBINARY = 201
+VARBINARY = 202
 
 abbrev pub UNCOMMITTED : ℕ
-UNCOMMITTED = 202
-
-abbrev pub FALSE : ℕ
-FALSE = 203
+UNCOMMITTED = 203
 
 abbrev pub start : ℕ
 start = 0
@@ -782,43 +782,43 @@ abbrev pub source : ℕ
 source = 56
 
 abbrev pub contents : ℕ
-contents = 164
+contents = 256
 
 abbrev pub tuples : ℕ
-tuples = 165
+tuples = 257
 
 abbrev pub tuples_more : ℕ
-tuples_more = 166
+tuples_more = 258
 
 abbrev pub tuple : ℕ
-tuple = 167
+tuple = 259
 
 abbrev pub values_more : ℕ
-values_more = 168
+values_more = 260
 
 abbrev pub tuple_value : ℕ
-tuple_value = 169
+tuple_value = 261
 
 abbrev pub inserted_query : ℕ
-inserted_query = 170
+inserted_query = 262
 
 abbrev pub query_tail : ℕ
 query_tail = 60
 
 abbrev pub rows_of_values : ℕ
-rows_of_values = 171
+rows_of_values = 263
 
 abbrev pub rows_of_values_more : ℕ
-rows_of_values_more = 172
+rows_of_values_more = 264
 
 abbrev pub row_of_values : ℕ
-row_of_values = 173
+row_of_values = 265
 
 abbrev pub row_of_values_more : ℕ
-row_of_values_more = 174
+row_of_values_more = 266
 
 abbrev pub behind_rows : ℕ
-behind_rows = 175
+behind_rows = 267
 
 abbrev pub update : ℕ
 update = 68
@@ -860,7 +860,7 @@ abbrev pub created : ℕ
 created = 80
 
 abbrev pub table_definition : ℕ
-table_definition = 176
+table_definition = 268
 
 abbrev pub elements_more : ℕ
 elements_more = 82
@@ -1013,7 +1013,7 @@ abbrev pub primary : ℕ
 primary = 131
 
 abbrev pub ordered : ℕ
-ordered = 177
+ordered = 269
 
 abbrev pub intervals : ℕ
 intervals = 132

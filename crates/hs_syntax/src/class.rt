@@ -69,7 +69,7 @@ fn start(starts: &[u8], letter: usize) -> usize
 }
 
 /// The class of a word, which is looked up among those with its first letter.
-fn word_class(word: &[u8]) -> u8
+pub fn word_class(word: &[u8]) -> u8
     ensures { result ≡ spec.word_class word.now }
 {
     lookup_by_letter(&WORDS, &STARTS, word, IDENTIFIER)

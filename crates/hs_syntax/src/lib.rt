@@ -8,9 +8,13 @@
 #![tactic(auto)]
 
 mod class;
+mod laws;
+mod reserved;
 mod syntax;
 mod table;
 mod words;
 
 pub use class::classes;
+pub use laws::law_of_one_reading;
+pub use reserved::is_reserved;
 pub use syntax::recognised;

@@ -5,3 +5,4 @@ pub mod MoveLemmas
 pub mod ReadingLemmas
 pub mod StampLemmas
 pub mod TextLemmas
+pub mod YearLemmas

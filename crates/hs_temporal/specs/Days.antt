@@ -1,15 +1,8 @@
 -- Days by number, with 0 for 1970-01-01 of the proleptic Gregorian calendar, and microseconds since the beginning of that day.
-use Rattle.std.specs.Prelude.{ℕ, zero, suc, ◌+◌, Bool, if◌then◌else◌, ℤ, pos, neg_ℤ, ◌-ℤ◌, int_le, unsigned_abs}
+use Rattle.std.specs.Prelude.{ℕ, zero, suc, ◌+◌, Bool, if◌then◌else◌, ℤ, pos, ◌+ℤ◌, ◌-ℤ◌, ◌*ℤ◌, int_le, unsigned_abs}
 use Rattle.std.specs.Int.{int_div_euclid, int_rem_euclid}
 use Rattle.jiff_core.specs.Calendar.{IsBetween, days_from_civil}
-
--- 0001-01-01
-abbrev pub first_day : ℤ
-first_day = neg_ℤ (pos 719_162)
-
--- 9999-12-31
-abbrev pub last_day : ℤ
-last_day = pos 2_932_896
+pub use Rattle.hs_values.specs.Years.{first_day, last_day, day_micros}
 
 -- how many days there are from the one to the other
 abbrev pub day_total : ℕ
@@ -36,10 +29,6 @@ month_of day = count_to (λ month. int_le (days_from_civil (pos (year_of day)) m
 unfoldable pub monthday_of : ℤ → ℕ
 monthday_of day = unsigned_abs (day -ℤ days_from_civil (pos (year_of day)) (month_of day) 1) + 1
 
--- the microseconds of a day, which has 24 hours and no leap second
-abbrev pub day_micros : ℕ
-day_micros = 86_400_000_000
-
 -- the day in which a time lies
 abbrev pub day_of : ℤ → ℤ
 day_of micros = int_div_euclid micros (pos day_micros)
@@ -51,3 +40,7 @@ time_of micros = unsigned_abs (int_rem_euclid micros (pos day_micros))
 -- a time of the years 1 to 9999
 abbrev pub IsMicros : ℤ → Type 0
 IsMicros micros = IsDay (day_of micros)
+
+-- the time so many microseconds after the beginning of a day
+abbrev pub moment_at : ℤ → ℕ → ℤ
+moment_at day time = day *ℤ pos day_micros +ℤ pos time

@@ -2,11 +2,14 @@
 #![tactic(auto)]
 
 mod calendar;
+mod days;
+pub mod laws;
 mod moves;
 mod parts;
 mod printing;
 mod reading;
 
+pub use days::{day_and_time, moment_at};
 pub use moves::{plus_days, plus_months};
 pub use parts::{Part, extract};
 pub use printing::{print_date, print_stamp};

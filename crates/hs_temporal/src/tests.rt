@@ -201,5 +201,11 @@ fn prints_and_extracts(rt: HostRuntime) -> Result<(), Fail> {
         assert!(rt; *micros >= -62_135_596_800_000_000 && *micros <= 253_402_300_799_999_999);
         assert_eq!(rt; extract(*part, *micros), *want, "{part:?} of {micros}");
     }
+    assert_eq!(rt; day_and_time(-1), (-1, 86_399_999_999));
+    assert_eq!(rt; moment_at(19_782, 29_100_000_000), 1_709_193_900_000_000);
+    laws::lawful_days_are_of_the_years_1_to_9999();
+    laws::a_day_is_one_date();
+    laws::a_timestamp_is_a_day_and_a_time();
+    laws::a_text_is_of_one_day();
     Ok(())
 }

@@ -12,7 +12,7 @@ use Rattle.hs_top.specs.declared.commit_text.Commit.{Commit}
 use Rattle.hs_top.specs.declared.statement.Statement.{Statement}
 use Rattle.hs_top.specs.declared.statement.Statement.TheVariants.{Create, Insert, Select}
 use Rattle.hs_top.specs.Statement.{◌>>=◌, after, is_digit, session_of, create_of, insert_of}
-use Rattle.hs_top.specs.Lines.{joined, row_text}
+use Rattle.hs_machine.specs.Values.{joined, row_text}
 use Rattle.hs_top.specs.Spelling.{IsSpellable, column_text}
 use Rattle.hs_top.specs.CommitText.{mark, change_line, is_of, commit_text, mark_of, marked_of, change_of, commit_of, IsSession, IsChange, IsLawful}
 use Rattle.hs_top.proofs.Numerals.{bind_some, bind_is, after_split, after_back, front_digits, digits_before, session_spelled, session_back}

@@ -8,7 +8,7 @@ use Rattle.hs_gate.specs.Gated.{IsAtRest, IsUnbornOrCreated, empty, created}
 use Rattle.hs_gate.specs.Groups.{groups_of, is_born, is_open, epoch_of}
 use Rattle.hs_gate.proofs.Fronts.{created_fresh}
 use Rattle.hs_top.specs.Crash.{GivesSame, IsUnbornOrSurvives}
-use Rattle.hs_top.specs.Opening.{Opened, nothing_logged, replayed, opened_of, texts_at}
+use Rattle.hs_top.specs.Opening.{nothing_logged, replayed, opened_of, texts_at}
 use Rattle.hs_top.proofs.Safe.{same_survives, born_texts}
 
 -- what an unborn log gives
@@ -25,7 +25,7 @@ no_texts (text ∷ texts) is = absurd (omega (arith, is))
 -- a new log gives no more
 created_same : (files : Five (List ℕ)) (old : List ℕ) → is_born old ≡ false → GivesSame old created
 created_same files old unborn =
-    let rest : IsAtRest (with_ files Log created) (empty Log 1) = created_fresh files (with_ files Log created) Log refl in
+    let rest : IsAtRest (with_ files Log created) (empty Log 1) = created_fresh (with_ files Log created) Log refl in
     let opened : is_open created ≡ true = rest.stands.front.opened in
     let epoch : epoch_of created ≡ 1 = sym (ap (λ (g : Gated). g.epoch) rest.stands.front.is) in
     let whole : (groups_of created).is_broken ≡ false = rest.stands.whole in

@@ -11,7 +11,7 @@ use Rattle.hs_values.specs.declared.value.Value.{Value}
 use Rattle.hs_top.specs.Entries.{Entries, entries_of}
 use Rattle.hs_top.specs.Database.{table_of, with_row, adding_of, inserted, committed, refused}
 use Rattle.hs_top.specs.declared.database.Database.{Database}
-use Rattle.hs_top.specs.declared.refusal.Refusal.TheVariants.{NoSuch, NotBuilt}
+use Rattle.hs_machine.specs.declared.refusal.Refusal.TheVariants.{NoSuch, NotBuilt}
 use Rattle.hs_top.specs.declared.table.Adding.{Adding}
 use Rattle.hs_top.specs.declared.table.Adding.TheVariants.{Added, NoTable, OtherLength}
 

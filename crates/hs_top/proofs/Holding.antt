@@ -1,33 +1,52 @@
 -- What holds of the log and of the output at each moment, from what a call does.
-use Rattle.std.proofs.Common.{◌≡◌, ◌⊎◌, ℕ, ◌+◌, ◌<◌, ◌≤◌, true, false, List, [], ◌∷◌, ◌++◌, length, take, get_or, inl, inr, refl, sym, ap, subst, ◌∙◌, arith, append_assoc, length-append, append-nil, get_or-take}
+use Rattle.std.proofs.Common.{◌≡◌, ◌⊎◌, ℕ, ◌+◌, ◌≤◌, Bool, true, false, List, [], ◌∷◌, ◌++◌, length, inl, inr, refl, sym, ap, subst, ◌∙◌, arith, append_assoc, length-append, append-nil}
+use Rattle.hs_host.specs.declared.file_kind.FileKind.{FileKind}
 use Rattle.hs_host.specs.declared.file_kind.FileKind.TheVariants.{Log}
+use Rattle.hs_host.specs.declared.source.Source as source
+use Rattle.hs_host.specs.declared.host.Host as host
 use Rattle.hs_host.specs.Disk.{Pending, Leaves}
-use Rattle.hs_host.specs.Files.{Five, of}
+use Rattle.hs_host.specs.Files.{Five, of, IsOpen, IsHonest}
 use Rattle.hs_host.specs.Prefixes.{KeepsPrefix}
-use Rattle.hs_host.specs.Moments.{Moment, History, Since, IsStill, IsPrinted, disk_of}
-use Rattle.hs_host.proofs.Passing.{since_weaker, since_join, since_now, told_disks, told_nothing, told_more}
+use Rattle.hs_host.specs.Moments.{Moment, History, Since, IsPrinted, IsReading, disk_of}
+use Rattle.hs_host.specs.Used.{Told, UsesDisk, UsesOutput}
+use Rattle.hs_host.proofs.Passing.{since_weaker, since_join, since_now}
 use Rattle.hs_host.proofs.Torn.{front_stays}
 use Rattle.hs_gate.specs.declared.gated.Gated.{Gated}
-use Rattle.hs_gate.specs.Crash.{IsCalm}
-use Rattle.hs_gate.specs.Gated.{IsGated}
-use Rattle.hs_gate.specs.Groups.{Groups, groups_of, is_born, is_open, epoch_of}
-use Rattle.hs_gate.proofs.Fronts.{open_same, epoch_same}
-use Rattle.hs_gate.proofs.Pieces.{take_same}
+use Rattle.hs_gate.specs.Crash.{IsAsBefore}
+use Rattle.hs_gate.specs.Gated.{IsAtRest, grown}
+use Rattle.hs_gate.proofs.Numbers.{length-spelled}
+use Rattle.hs_gate.specs.Groups.{groups_of, is_born, is_open, epoch_of}
 use Rattle.hs_gate.proofs.Torn.{as_before}
+use Rattle.hs_log.specs.Log.{IsLog, IsLogOf}
 use Rattle.hs_top.specs.declared.statement_log.StatementLog.{StatementLog}
 use Rattle.hs_top.specs.Crash.{AcknowledgesBehind}
-use Rattle.hs_top.specs.Holding.{Holds, IsHeld, IsGathered, IsAcknowledging, IsLogging, IsStep}
-use Rattle.hs_top.specs.Running.{IsLog, IsSound, texts_in}
+use Rattle.hs_top.specs.Holding.{IsHeld, IsGathered, IsAcknowledging, IsLogging, IsStep, IsHandedOver}
+use Rattle.hs_top.specs.Running.{Stands, UsesWork, OnlyLog, texts_in}
 use Rattle.hs_entries.specs.declared.item.Item.{Item}
-use Rattle.hs_top.specs.Lines.{opened_line, closed_line}
+use Rattle.hs_machine.specs.Lines.{OpenedAt, ClosedAt, printed_line, printed}
 use Rattle.hs_top.specs.Machine.{State, step_of}
-use Rattle.hs_top.specs.Acknowledged.{AcknowledgesAtMost, AcknowledgesLines, IsNamed}
+use Rattle.hs_machine.specs.Acknowledged.{AcknowledgesAtMost, AcknowledgesLines}
+use Rattle.hs_machine.proofs.Acknowledged.{tells_nothing, fewer, more}
+use Rattle.hs_top.specs.Acknowledged.{IsNamed}
 use Rattle.hs_top.proofs.Prefixes.{split_front}
-use Rattle.hs_top.proofs.Acknowledged.{tells_nothing, fewer, more, opened_tells, closed_tells, step_tells, one_text}
+use Rattle.hs_top.proofs.Acknowledged.{opened_tells, closed_tells, step_tells, one_text}
+
+-- handing over nothing, more than this, and what the disk has all the while
+pub handed_nothing : (m : Moment) (bytes : List ℕ) → IsHandedOver m bytes m
+handed_nothing m bytes = record { disks = refl; piece = []; rest = bytes; out = sym (append-nil m.out); whole = refl }
+
+handed_more : (before m : Moment) (bytes more : List ℕ) → IsHandedOver before bytes m → IsHandedOver before (bytes ++ more) m
+handed_more before m bytes more t = record { disks = t.disks; piece = t.piece; rest = t.rest ++ more; out = t.out; whole = sym (append_assoc t.piece t.rest more) ∙ ap (λ (l : List ℕ). l ++ more) t.whole }
+
+pub handed_disks : {a b : History} {bytes : List ℕ} → Since (IsHandedOver a.now bytes) a b → b.now.disks ≡ a.now.disks
+handed_disks s = elim (since_now s) [ inl is ↦ ap (λ (m : Moment). m.disks) is | inr t ↦ t.disks ]
+
+pub handed_printed : {a b : History} (bytes : List ℕ) → Since (IsPrinted a.now bytes) a b → Since (IsHandedOver a.now bytes) a b
+handed_printed {a} {b} bytes ab = since_weaker ab (λ m p. record { disks = ap (λ (x : Moment). x.disks) p.is; piece = p.piece; rest = p.rest; out = ap (λ (x : Moment). x.out) p.is; whole = p.whole })
 
 -- what is told behind what was handed over before is told of the whole
 pub told_through : (before mid m : Moment) (gathered rest whole : List ℕ) → mid.disks ≡ before.disks → mid.out ++ (gathered ++ rest) ≡ before.out ++ whole → length before.out ≤ length mid.out
-    → IsPrinted mid gathered m → IsPrinted before whole m
+    → IsHandedOver mid gathered m → IsHandedOver before whole m
 told_through before mid m gathered rest whole disks left grown t =
     let parts = split_front mid.out (gathered ++ rest) before.out whole left grown in
     record {
@@ -39,24 +58,24 @@ told_through before mid m gathered rest whole disks left grown t =
     }
 
 -- so it is of all moments, by the bytes that were written
-pub told_join : {a b c : History} (old new gathered rest whole : List ℕ) → a.now.out ≡ old → b.now.out ≡ new → Since (IsPrinted a.now whole) a b → new ++ (gathered ++ rest) ≡ old ++ whole → length old ≤ length new
-    → Since (IsPrinted b.now gathered) b c → Since (IsPrinted a.now whole) a c
+pub told_join : {a b c : History} (old new gathered rest whole : List ℕ) → a.now.out ≡ old → b.now.out ≡ new → Since (IsHandedOver a.now whole) a b → new ++ (gathered ++ rest) ≡ old ++ whole → length old ≤ length new
+    → Since (IsHandedOver b.now gathered) b c → Since (IsHandedOver a.now whole) a c
 told_join {a} {b} {c} old new gathered rest whole old_is new_is ab left grown bc =
     since_join ab (since_weaker bc (λ m t.
-    told_through a.now b.now m gathered rest whole (told_disks ab)
+    told_through a.now b.now m gathered rest whole (handed_disks ab)
     (ap (λ (l : List ℕ). l ++ (gathered ++ rest)) new_is ∙ left ∙ sym (ap (λ (l : List ℕ). l ++ whole) old_is))
     (omega (arith, grown, ap length old_is, ap length new_is)) t))
 
--- and nothing is told while the disk is still
-pub told_still : {a b c : History} (whole : List ℕ) → Since (IsPrinted a.now whole) a b → Since (IsStill b.now) b c → Since (IsPrinted a.now whole) a c
-told_still {a} {b} {c} whole ab bc =
-    let at_b : IsPrinted a.now whole b.now = elim (since_now ab) [ inl is ↦ subst (IsPrinted a.now whole) (sym is) (told_nothing a.now whole) | inr told ↦ told ] in
-    since_join ab (since_weaker bc (λ m is. subst (IsPrinted a.now whole) (sym is) at_b))
+-- and nothing is told while input is read
+pub told_read : {a b c : History} (whole : List ℕ) → Since (IsHandedOver a.now whole) a b → Since (IsReading b.now) b c → Since (IsHandedOver a.now whole) a c
+told_read {a} {b} {c} whole ab bc =
+    let at_b : IsHandedOver a.now whole b.now = elim (since_now ab) [ inl is ↦ subst (IsHandedOver a.now whole) (sym is) (handed_nothing a.now whole) | inr told ↦ told ] in
+    since_join ab (since_weaker bc (λ m reading. record { disks = ap (λ (x : Moment). x.disks) reading.is ∙ at_b.disks; piece = at_b.piece; rest = at_b.rest; out = ap (λ (x : Moment). x.out) reading.is ∙ at_b.out; whole = at_b.whole }))
 
 -- with more behind it
-pub told_and : {a b : History} (gathered piece more : List ℕ) → Since (IsPrinted a.now (gathered ++ piece)) a b → Since (IsPrinted a.now (gathered ++ (piece ++ more))) a b
+pub told_and : {a b : History} (gathered piece more : List ℕ) → Since (IsHandedOver a.now (gathered ++ piece)) a b → Since (IsHandedOver a.now (gathered ++ (piece ++ more))) a b
 told_and {a} {b} gathered piece more ab =
-    since_weaker ab (λ m t. subst (λ (l : List ℕ). IsPrinted a.now l m) (append_assoc gathered piece more) (told_more a.now m (gathered ++ piece) more t))
+    since_weaker ab (λ m t. subst (λ (l : List ℕ). IsHandedOver a.now l m) (append_assoc gathered piece more) (handed_more a.now m (gathered ++ piece) more t))
 
 -- what is gathered goes on where some of it was handed over
 pub gathered_on : (before old new whole gathered : List ℕ) (commits : ℕ) → new ++ gathered ≡ old ++ whole → length old ≤ length new → IsGathered before old whole commits → IsGathered before new gathered commits
@@ -70,16 +89,16 @@ gathered_on before old new whole gathered commits is grown all =
 
 -- with the lines of a step
 pub gathered_step : (before out gathered : List ℕ) (item : Item) (s : State) → IsNamed item → IsGathered before out gathered s.database.commits
-    → IsGathered before out (gathered ++ (step_of item s).lines) (step_of item s).next.database.commits
+    → IsGathered before out (gathered ++ printed (step_of item s).lines) (step_of item s).next.database.commits
 gathered_step before out gathered item s named all = record {
   written = all.written;
   is = all.is;
-  lines = subst (λ (l : List ℕ). AcknowledgesLines l (step_of item s).next.database.commits) (append_assoc all.written gathered (step_of item s).lines) (step_tells item s named (all.written ++ gathered) all.lines);
+  lines = subst (λ (l : List ℕ). AcknowledgesLines l (step_of item s).next.database.commits) (append_assoc all.written gathered (printed (step_of item s).lines)) (step_tells item s named (all.written ++ gathered) all.lines);
 }
 
 -- so it is counted and told where a step is done
 pub telling_step : (least : ℕ) (before : List ℕ) (old new : Five (List ℕ)) (out new_out gathered new_gathered : List ℕ) (item : Item) (s next : State) → IsNamed item → next ≡ (step_of item s).next
-    → texts_in new ≡ texts_in old ++ (step_of item s).texts → new_out ++ new_gathered ≡ out ++ (gathered ++ (step_of item s).lines) → length out ≤ length new_out
+    → texts_in new ≡ texts_in old ++ (step_of item s).texts → new_out ++ new_gathered ≡ out ++ (gathered ++ printed (step_of item s).lines) → length out ≤ length new_out
     → IsAcknowledging least before old out gathered s.database.commits → IsAcknowledging least before new new_out new_gathered next.database.commits
 telling_step least before old new out new_out gathered new_gathered item s next named done texts whole grown t =
     let commits : next.database.commits ≡ (step_of item s).next.database.commits = ap (λ (n : State). n.database.commits) done in
@@ -88,7 +107,7 @@ telling_step least before old new out new_out gathered new_gathered item s next 
       enough = omega (arith, t.enough, ap length texts, count);
       counted = omega (arith, commits, one_text item s, t.counted, ap length texts, count);
       gathered = subst (IsGathered before new_out new_gathered) (sym commits)
-          (gathered_on before out new_out (gathered ++ (step_of item s).lines) new_gathered (step_of item s).next.database.commits whole grown (gathered_step before out gathered item s named t.gathered));
+          (gathered_on before out new_out (gathered ++ printed (step_of item s).lines) new_gathered (step_of item s).next.database.commits whole grown (gathered_step before out gathered item s named t.gathered));
     }
 
 -- and where output is handed over
@@ -101,7 +120,7 @@ telling_handed least before old new out new_out gathered new_gathered commits sa
 }
 
 -- the first line tells of nothing
-pub first_gathered : (out gathered : List ℕ) (opened commits : ℕ) → gathered ≡ opened_line opened → IsGathered out out gathered commits
+pub first_gathered : (out gathered : List ℕ) (opened commits : ℕ) → gathered ≡ printed_line (OpenedAt opened) → IsGathered out out gathered commits
 first_gathered out gathered opened commits is = record {
   written = [];
   is = sym (append-nil out);
@@ -109,58 +128,60 @@ first_gathered out gathered opened commits is = record {
 }
 
 -- and so does the last one
-pub last_gathered : (before out old new : List ℕ) (closed commits : ℕ) → new ≡ old ++ closed_line closed → IsGathered before out old commits → IsGathered before out new commits
+pub last_gathered : (before out old new : List ℕ) (closed commits : ℕ) → new ≡ old ++ printed_line (ClosedAt closed) → IsGathered before out old commits → IsGathered before out new commits
 last_gathered before out old new closed commits is all = record {
   written = all.written;
   is = all.is;
-  lines = subst (λ (l : List ℕ). AcknowledgesLines l commits) (append_assoc all.written old (closed_line closed) ∙ ap (λ (l : List ℕ). all.written ++ l) (sym is)) (closed_tells (all.written ++ old) commits closed all.lines);
+  lines = subst (λ (l : List ℕ). AcknowledgesLines l commits) (append_assoc all.written old (printed_line (ClosedAt closed)) ∙ ap (λ (l : List ℕ). all.written ++ l) (sym is)) (closed_tells (all.written ++ old) commits closed all.lines);
 }
 
--- telling leaves the log calm
-pub calm_told : {a b : History} {bytes : List ℕ} (old new : Five (List ℕ)) (gated : Gated) → Since (IsPrinted a.now bytes) a b → new ≡ old → IsCalm a old gated → IsCalm b new gated
-calm_told {a} {b} {bytes} old new gated s same calm =
-    subst (λ (f : Five (List ℕ)). KeepsPrefix (disk_of b.now gated.file) (gated.end + 1) (of f gated.file)) (sym same)
-    (subst (λ (d : Five Pending). KeepsPrefix (of d gated.file) (gated.end + 1) (of old gated.file)) (sym (told_disks s)) calm)
+-- handing over leaves the log as it is kept
+pub log_handed : {a b : History} {bytes : List ℕ} (old new : Five (List ℕ)) (gated : Gated) → Since (IsHandedOver a.now bytes) a b → new ≡ old → IsLog a old gated → IsLog b new gated
+log_handed {a} {b} {bytes} old new gated s same is = record {
+  file = is.file;
+  born = subst (λ (f : Five (List ℕ)). is_born f.log ≡ true) (sym same) is.born;
+  rest = subst (λ (f : Five (List ℕ)). IsAtRest f gated) (sym same) is.rest;
+  calm = subst (λ (f : Five (List ℕ)). KeepsPrefix (disk_of b.now gated.file) (gated.end + 1) (of f gated.file)) (sym same)
+      (subst (λ (d : Five Pending). KeepsPrefix (of d gated.file) (gated.end + 1) (of old gated.file)) (sym (handed_disks s)) is.calm);
+}
 
-pub born_same : (left old : List ℕ) (end : ℕ) → 10 ≤ end → end < length left → take end left ≡ take end old → is_born old ≡ true → is_born left ≡ true
-born_same left old end far long same born =
-    let first : get_or left 0 0 ≡ get_or old 0 0 = sym (get_or-take end left 0 0 (omega (arith, far))) ∙ ap (λ (l : List ℕ). get_or l 0 0) same ∙ get_or-take end old 0 0 (omega (arith, far)) in
-    grind (arith, born, first, long)
+-- and so the host stands for it
+pub stands_handed : {H : Type 0} {s : source.Ghosts H} {g : host.Ghosts H} {bytes : List ℕ} (log : StatementLog) (commits : ℕ) (a b : H) → g.standing b ≡ g.standing a → g.files b ≡ g.files a → (s.tells → Since (IsHandedOver (g.history a).now bytes) (g.history a) (g.history b))
+    → Stands s g log commits a → Stands s g log commits b
+stands_handed {H} {s} {g} {bytes} log commits a b standing files moments stands = record {
+  opened = subst IsOpen (sym standing) stands.opened;
+  epoch = stands.epoch;
+  room = stands.room;
+  log = λ t. log_handed (g.files a) (g.files b) log.gated (moments t.tells) files (stands.log (record { tells = t.tells; honest = subst IsHonest standing t.honest }));
+}
 
--- what a crash leaves of a log whose groups are these
-module _ (files : Five (List ℕ)) (log : StatementLog) (sound : IsSound log) (is : IsLog files log) (least : ℕ) (before out : List ℕ) where
-  file_is : of files log.gated.file ≡ files.log
-  file_is = ap (of files) sound.file
+-- the log as it is kept
+pub kept_is : (files : Five (List ℕ)) (h : History) (gated : Gated) → IsLog h files gated → gated.epoch ≡ 1 → IsLogOf 1 (texts_in files) files.log
+kept_is files h gated is first =
+    let file : of files gated.file ≡ files.log = ap (of files) is.file in
+    record {
+      born = is.born;
+      groups = record {
+        opened = subst (λ (bytes : List ℕ). is_open bytes ≡ true) file is.rest.stands.front.opened;
+        epoch_is = sym (ap (λ (g : Gated). g.epoch) is.rest.stands.front.is ∙ ap epoch_of file) ∙ first;
+        groups = ap (λ (b : Bool). record { payloads = texts_in files; is_broken = b }) (subst (λ (bytes : List ℕ). (groups_of bytes).is_broken ≡ false) file is.rest.stands.whole);
+      };
+    }
 
-  gated_is : IsGated files log.gated
-  gated_is = is.rest.stands
-
-  old_open : is_open files.log ≡ true
-  old_open = subst (λ (bytes : List ℕ). is_open bytes ≡ true) file_is gated_is.front.opened
-
-  far : 10 ≤ log.gated.end
-  far = omega (arith, ap (λ (g : Gated). g.end) gated_is.front.is)
-
-  -- it begins as before, and has these groups
-  pub holds_of : (left : List ℕ) (payloads all rest : List (List ℕ)) → log.gated.end < length left → take log.gated.end left ≡ take log.gated.end files.log
-      → (groups_of left).payloads ≡ payloads → (groups_of left).is_broken ≡ false → least ≤ length payloads → payloads ++ rest ≡ all → AcknowledgesBehind before out (length payloads)
-      → Holds least all before out left
-  unfolding far old_open
-  holds_of left payloads all rest long same groups whole enough texts told =
-      let ten : take 10 left ≡ take 10 files.log = take_same 10 log.gated.end left files.log same far in
-      record {
-        born = born_same left files.log log.gated.end far long same is.born;
-        opened = open_same left files.log old_open ten (omega (arith, long, far));
-        epoch = epoch_same left files.log ten ∙ ap epoch_of (sym file_is) ∙ sym (ap (λ (g : Gated). g.epoch) gated_is.front.is) ∙ sound.epoch;
-        whole = whole;
-        enough = omega (arith, enough, ap length groups);
-        rest = rest;
-        texts = ap (λ (l : List (List ℕ)). l ++ rest) groups ∙ texts;
-        told = subst (λ (n : ℕ). AcknowledgesBehind before out n) (sym (ap length groups)) told;
-      }
+-- and what a crash leaves of it
+pub kept_left : (files : Five (List ℕ)) (h : History) (gated : Gated) (left : List ℕ) → IsLog h files gated → gated.epoch ≡ 1 → Leaves (disk_of h.now Log) left → IsLogOf 1 (texts_in files) left
+kept_left files h gated left is first leaves =
+    let file : of files gated.file ≡ files.log = ap (of files) is.file in
+    let there : Leaves (disk_of h.now gated.file) left = subst (λ (k : FileKind). Leaves (disk_of h.now k) left) (sym is.file) leaves in
+    let same : IsAsBefore files.log left = subst (λ (bytes : List ℕ). IsAsBefore bytes left) file (as_before files gated left is.rest.stands (front_stays (disk_of h.now gated.file) (gated.end + 1) (of files gated.file) left is.calm there)) in
+    let kept = kept_is files h gated is first in
+    record {
+      born = same.header.birth ∙ kept.born;
+      groups = record { opened = same.header.gate ∙ kept.groups.opened; epoch_is = same.header.epoch ∙ kept.groups.epoch_is; groups = same.groups ∙ kept.groups.groups };
+    }
 
 -- a prefix of what was gathered tells of no more
-told_behind : (before : List ℕ) (mid m : Moment) (gathered : List ℕ) (commits : ℕ) → IsGathered before mid.out gathered commits → IsPrinted mid gathered m → AcknowledgesBehind before m.out commits
+told_behind : (before : List ℕ) (mid m : Moment) (gathered : List ℕ) (commits : ℕ) → IsGathered before mid.out gathered commits → IsHandedOver mid gathered m → AcknowledgesBehind before m.out commits
 told_behind before mid m gathered commits all t = record {
   written = all.written ++ t.piece;
   is = t.out ∙ ap (λ (l : List ℕ). l ++ t.piece) all.is ∙ append_assoc before all.written t.piece;
@@ -170,60 +191,98 @@ told_behind before mid m gathered commits all t = record {
       all.lines.told);
 }
 
-module _ (files : Five (List ℕ)) (h : History) (log : StatementLog) (sound : IsSound log) (is : IsLog files log) (calm : IsCalm h files log.gated) (least : ℕ) (before : List ℕ) (commits : ℕ) (enough : least ≤ length (texts_in files)) (counted : commits ≡ length (texts_in files)) where
-  log_disk : disk_of h.now log.gated.file ≡ disk_of h.now Log
-  log_disk = ap (disk_of h.now) sound.file
-
+module _ (files : Five (List ℕ)) (h : History) (gated : Gated) (is : IsLog h files gated) (first : gated.epoch ≡ 1) (least : ℕ) (before : List ℕ) (commits : ℕ) (enough : least ≤ length (texts_in files)) (counted : commits ≡ length (texts_in files)) where
   -- while output is handed over
-  pub held_telling : (gathered : List ℕ) (rest : List (List ℕ)) (m : Moment) → IsGathered before h.now.out gathered commits → IsPrinted h.now gathered m → IsHeld least (texts_in files ++ rest) before m
-  unfolding log_disk
-  held_telling gathered rest m all t left leaves =
-      let stays = front_stays (disk_of h.now log.gated.file) (log.gated.end + 1) (of files log.gated.file) left calm
-      (subst (λ (p : Pending). Leaves p left) (ap (λ (d : Five Pending). of d Log) t.disks ∙ sym log_disk) leaves) in
-      let begins = as_before files log.gated left is.rest.stands stays in
-      holds_of files log sound is least before m.out left (texts_in files) (texts_in files ++ rest) rest begins.long
-      (begins.front ∙ ap (λ (l : List ℕ). take log.gated.end l) (ap (of files) sound.file))
-      (ap (λ (g : Groups). g.payloads) (begins.groups ∙ ap groups_of (ap (of files) sound.file)))
-      (ap (λ (g : Groups). g.is_broken) begins.groups ∙ is.rest.stands.whole)
-      enough refl (subst (AcknowledgesBehind before m.out) counted (told_behind before h.now m gathered commits all t))
+  pub held_telling : (gathered : List ℕ) (rest : List (List ℕ)) (m : Moment) → IsGathered before h.now.out gathered commits → IsHandedOver h.now gathered m → IsHeld least (texts_in files ++ rest) before m
+  held_telling gathered rest m all t left leaves = record {
+    texts = texts_in files;
+    is = kept_left files h gated left is first (subst (λ (d : Five Pending). Leaves (of d Log) left) t.disks leaves);
+    enough = enough;
+    rest = rest;
+    prefix = refl;
+    told = subst (AcknowledgesBehind before m.out) counted (told_behind before h.now m gathered commits all t);
+  }
 
   -- while a text is logged, and while what was gathered is handed over behind that
-  held_logged : (gathered : List ℕ) (texts rest : List (List ℕ)) (mid m : Moment) → IsGathered before h.now.out gathered commits → IsLogging h.now files.log log.gated.end texts mid → IsPrinted mid gathered m → IsHeld least (texts_in files ++ (texts ++ rest)) before m
+  held_logged : (gathered : List ℕ) (texts rest : List (List ℕ)) (mid m : Moment) → IsGathered before h.now.out gathered commits → IsLogging h.now (texts_in files) texts mid → IsHandedOver mid gathered m → IsHeld least (texts_in files ++ (texts ++ rest)) before m
   held_logged gathered texts rest mid m all l t left leaves =
       let disk_is : disk_of m Log ≡ l.file.disk = ap (λ (d : Five Pending). of d Log) t.disks ∙ ap (λ (x : Moment). disk_of x Log) l.file.is in
-      let either = l.file.each left (subst (λ (p : Pending). Leaves p left) disk_is leaves) in
       let out : mid.out ≡ h.now.out = ap (λ (x : Moment). x.out) l.file.is in
-      let whole : (groups_of files.log).is_broken ≡ false = subst (λ (bytes : List ℕ). (groups_of bytes).is_broken ≡ false) (ap (of files) sound.file) is.rest.stands.whole in
       let told = subst (AcknowledgesBehind before m.out) counted (told_behind before mid m gathered commits (subst (λ (o : List ℕ). IsGathered before o gathered commits) (sym out) all) t) in
-      elim either.groups [
-        | inl same ↦ holds_of files log sound is least before m.out left (texts_in files) (texts_in files ++ (texts ++ rest)) (texts ++ rest) either.long either.front
-            (ap (λ (g : Groups). g.payloads) same) (ap (λ (g : Groups). g.is_broken) same ∙ whole) enough refl told
-        | inr one ↦ holds_of files log sound is least before m.out left (texts_in files ++ l.text ∷ []) (texts_in files ++ (texts ++ rest)) rest either.long either.front
-            (ap (λ (g : Groups). g.payloads) one) (ap (λ (g : Groups). g.is_broken) one ∙ whole)
-            (omega (arith, enough, length-append (texts_in files) (l.text ∷ [])))
-            (append_assoc (texts_in files) (l.text ∷ []) rest ∙ ap (λ (ts : List (List ℕ)). texts_in files ++ (ts ++ rest)) (sym l.one))
-            (record { written = told.written; is = told.is; told = more told.written _ _ told.told (omega (arith, length-append (texts_in files) (l.text ∷ []))) })
+      elim (l.file.each left (subst (λ (p : Pending). Leaves p left) disk_is leaves)) [
+        | inl same ↦ record { texts = texts_in files; is = same; enough = enough; rest = texts ++ rest; prefix = refl; told = told }
+        | inr one ↦ record {
+          texts = texts_in files ++ l.text ∷ [];
+          is = one;
+          enough = omega (arith, enough, length-append (texts_in files) (l.text ∷ []));
+          rest = rest;
+          prefix = append_assoc (texts_in files) (l.text ∷ []) rest ∙ ap (λ (ts : List (List ℕ)). texts_in files ++ (ts ++ rest)) (sym l.one);
+          told = record { written = told.written; is = told.is; told = more told.written _ _ told.told (omega (arith, length-append (texts_in files) (l.text ∷ []))) };
+        }
       ]
 
   -- in both, step after step
   pub held_step : (gathered lines : List ℕ) (texts rest : List (List ℕ)) (m : Moment) → IsGathered before h.now.out gathered commits → (texts ≡ [] → IsGathered before h.now.out (gathered ++ lines) commits)
-      → IsStep h.now (gathered ++ lines) files.log log.gated.end texts m → IsHeld least (texts_in files ++ (texts ++ rest)) before m
+      → IsStep h.now (gathered ++ lines) (texts_in files) texts m → IsHeld least (texts_in files ++ (texts ++ rest)) before m
   held_step gathered lines texts rest m all quiet (inl told) =
       subst (λ (ts : List (List ℕ)). IsHeld least (texts_in files ++ (ts ++ rest)) before m) (sym told.0) (held_telling (gathered ++ lines) rest m (quiet told.0) told.1)
-  held_step gathered lines texts rest m all quiet (inr logging) = held_logged gathered texts rest m m all logging (told_nothing m gathered)
+  held_step gathered lines texts rest m all quiet (inr logging) = held_logged gathered texts rest m m all logging (handed_nothing m gathered)
 
   -- and while what was gathered is handed over behind a step that wrote nothing
   pub held_failed : (gathered lines : List ℕ) (texts rest : List (List ℕ)) (mid m : Moment) → IsGathered before h.now.out gathered commits → mid.out ≡ h.now.out
-      → (mid ≡ h.now) ⊎ IsStep h.now (gathered ++ lines) files.log log.gated.end texts mid → IsPrinted mid gathered m → IsHeld least (texts_in files ++ (texts ++ rest)) before m
-  held_failed gathered lines texts rest mid m all out (inl same) t = held_telling gathered (texts ++ rest) m all (subst (λ (x : Moment). IsPrinted x gathered m) same t)
+      → (mid ≡ h.now) ⊎ IsStep h.now (gathered ++ lines) (texts_in files) texts mid → IsHandedOver mid gathered m → IsHeld least (texts_in files ++ (texts ++ rest)) before m
+  held_failed gathered lines texts rest mid m all out (inl same) t = held_telling gathered (texts ++ rest) m all (subst (λ (x : Moment). IsHandedOver x gathered m) same t)
   held_failed gathered lines texts rest mid m all out (inr (inl told)) t =
       held_telling gathered (texts ++ rest) m all (record { disks = t.disks ∙ told.1.disks; piece = t.piece; rest = t.rest; out = t.out ∙ ap (λ (l : List ℕ). l ++ t.piece) out; whole = t.whole })
   held_failed gathered lines texts rest mid m all out (inr (inr logging)) t = held_logged gathered texts rest mid m all logging t
 
 -- when the log is open, and nothing is gathered yet
-pub held_opened : (files : Five (List ℕ)) (h : History) (log : StatementLog) → IsSound log → IsLog files log → IsCalm h files log.gated → (before : List ℕ) (rest : List (List ℕ)) → h.now.out ≡ before
+pub held_opened : (files : Five (List ℕ)) (h : History) (gated : Gated) → IsLog h files gated → gated.epoch ≡ 1 → (before : List ℕ) (rest : List (List ℕ)) → h.now.out ≡ before
     → IsHeld (length (texts_in files)) (texts_in files ++ rest) before h.now
-held_opened files h log sound is calm before rest out =
-    held_telling files h log sound is calm (length (texts_in files)) before (length (texts_in files)) (omega arith) refl [] rest h.now
+held_opened files h gated is first before rest out =
+    held_telling files h gated is first (length (texts_in files)) before (length (texts_in files)) (omega arith) refl [] rest h.now
     (record { written = []; is = out ∙ sym (append-nil before); lines = record { told = tells_nothing _; ends = inl refl } })
-    (told_nothing h.now [])
+    (handed_nothing h.now [])
+
+-- files and output, and output behind that
+pub work_output : {H : Type 0} {s : source.Ghosts H} {g : host.Ghosts H} {a b c : H} → UsesWork s g a b → UsesOutput s g b c → UsesWork s g a c
+work_output {H} {s} {g} {a} {b} {c} ab bc = record {
+  standing = bc.standing ∙ ab.standing;
+  unread = bc.unread ∙ ab.unread;
+  input_faults = bc.input_faults ∙ ab.input_faults;
+  output_later = omega (arith, ab.output_later, bc.output_later);
+  disk_later = omega (arith, ab.disk_later, ap (λ (n : ℕ). n) bc.disk_faults);
+  others = λ told. subst (λ (f : Five (List ℕ)). OnlyLog (g.files a) f) (sym bc.files) (ab.others told);
+}
+
+-- output alone
+pub output_alone : {H : Type 0} {s : source.Ghosts H} {g : host.Ghosts H} {a b : H} → UsesOutput s g a b → UsesWork s g a b
+output_alone {H} {s} {g} {a} {b} ab = record {
+  standing = ab.standing;
+  unread = ab.unread;
+  input_faults = ab.input_faults;
+  output_later = ab.output_later;
+  disk_later = omega (arith, ap (λ (n : ℕ). n) ab.disk_faults);
+  others = λ told. subst (λ (f : Five (List ℕ)). OnlyLog (g.files a) f) (sym ab.files) refl;
+}
+
+-- the log alone
+pub disk_alone : {H : Type 0} {s : source.Ghosts H} {g : host.Ghosts H} {a b : H} → UsesDisk s g a b → (Told s g a → OnlyLog (g.files a) (g.files b)) → UsesWork s g a b
+disk_alone {H} {s} {g} {a} {b} ab others = record {
+  standing = ab.standing;
+  unread = ab.unread;
+  input_faults = ab.input_faults;
+  output_later = omega (arith, ap (λ (n : ℕ). n) ab.output_faults);
+  disk_later = ab.disk_later;
+  others = others;
+}
+
+-- one commit more is logged
+pub stands_more : {H : Type 0} {s : source.Ghosts H} {g : host.Ghosts H} (old new : StatementLog) (text : List ℕ) (n : ℕ) (a b : H) → new.gated ≡ grown old.gated (text ∷ []) → UsesDisk s g a b
+    → (Told s g a → IsLog (g.history b) (g.files b) new.gated) → Stands s g old n a → Stands s g new (n + 1) b
+stands_more {H} {s} {g} old new text n a b is uses log stands = record {
+  opened = subst IsOpen (sym uses.standing) stands.opened;
+  epoch = ap (λ (x : Gated). x.epoch) is ∙ stands.epoch;
+  room = omega (arith, stands.room, ap (λ (x : Gated). x.end) is, length-spelled text []);
+  log = λ t. log (record { tells = t.tells; honest = subst IsHonest uses.standing t.honest });
+}

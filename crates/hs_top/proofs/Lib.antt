@@ -22,6 +22,7 @@ pub mod Replayed
 pub mod Rows
 pub mod Runs
 pub mod Spelled
+pub mod Stops
 pub mod Tables
 pub mod Taken
 pub mod Acknowledged

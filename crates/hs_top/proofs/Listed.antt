@@ -7,7 +7,7 @@ use Rattle.std.proofs.lemmas.List.Elements.{All-nil, All-cons, All-head, All-tai
 use Rattle.std.proofs.lemmas.Option.{none-some, same_Some}
 use Rattle.std.proofs.lemmas.Slice.Eq.{bytes_eq-Decides}
 use Rattle.hs_top.specs.Statement.{◌>>=◌, after, list_from}
-use Rattle.hs_top.specs.Lines.{joined}
+use Rattle.hs_machine.specs.Values.{joined}
 use Rattle.hs_top.proofs.Numerals.{bind_some, bind_is, after_split, after_back, NoDigit}
 
 -- `one` reads just what `text` writes of a good element, where no digit follows

@@ -19,7 +19,7 @@ use Rattle.std.proofs.lemmas.Str.Parse.{numerals_by_value, tells_digits}
 use Rattle.hs_values.specs.declared.value.Value.{Value}
 use Rattle.hs_values.specs.declared.value.Value.TheVariants.{Int}
 use Rattle.hs_top.specs.Statement.{◌>>=◌, after, is_digit, is_capital, name_length, name_of, column_of, is_numeral, integer_of, session_of, has_minus, without_minus, number_of, value_of}
-use Rattle.hs_top.specs.Lines.{value_text}
+use Rattle.hs_machine.specs.Values.{value_text}
 use Rattle.hs_top.specs.Spelling.{IsName, IsBigint, column_text}
 use Rattle.hs_top.specs.CommitText.{IsSession}
 

@@ -1,7 +1,7 @@
 -- What a text holds when its parts were pushed one after another.
 use Rattle.std.proofs.Common.{◌≡◌, ℕ, Option, Some, List, ◌++◌, codes, ap, ◌∙◌, append_assoc, arith}
 use Rattle.std.proofs.lemmas.Fmt.{decimal_digit}
-use Rattle.hs_top.specs.Lines.{count_text, text_or_nothing}
+use Rattle.hs_machine.specs.Lines.{count_text, text_or_nothing}
 
 -- words, a name, what stands behind it, a list and its end
 pub line_pushed : (old one two three four new words given name opening list ending : List ℕ) →

@@ -13,11 +13,13 @@ use Rattle.hs_top.specs.declared.database.Database.{Database}
 use Rattle.hs_top.specs.declared.table.Table.{Table}
 use Rattle.hs_top.specs.declared.statement.Statement.{Statement}
 use Rattle.hs_top.specs.declared.statement.Statement.TheVariants.{Create, Insert, Select}
-use Rattle.hs_top.specs.declared.refusal.Refusal.TheVariants.{NotBuilt}
+use Rattle.hs_machine.specs.declared.refusal.Refusal.TheVariants.{NotBuilt}
+use Rattle.hs_machine.specs.Machine.{after, whole}
+use Rattle.hs_machine.specs.Replies.{is_commit}
 use Rattle.hs_top.specs.Statement.{◌>>=◌, statement_of}
 use Rattle.hs_top.specs.CommitText.{commit_text, commit_of, IsSession, IsChange}
 use Rattle.hs_top.specs.Database.{Outcome, executed, performed, created, inserted, selected, refused, committed, with_row, table_of, first_repeated}
-use Rattle.hs_top.specs.Machine.{State, Step, machine, step_of, entered, did, is_commit, turn, steps, texts, texts_of}
+use Rattle.hs_top.specs.Machine.{State, Step, machine, step_of, entered, did, turn, steps, texts, texts_of, last_state}
 use Rattle.hs_top.specs.Opening.{Opened, nothing_logged, redone, replayed, if_made, unless_broken, opened_of, texts_at, texts_from, begun_with, opened_at, ended_with, IsWholeLog}
 use Rattle.hs_top.specs.Sessions.{Admitted, number_from, number_in, made, admitted}
 use Rattle.hs_top.proofs.Numerals.{bind_some}
@@ -178,16 +180,16 @@ step_remade (Entry n name text at) s fit = entry (admitted name s.sessions) refl
 
 -- and so do the turns of a run
 pub after_turns_remade : (n : ℕ) (items : List Item) (s : State) → IsFit s → replayed (opened_at s) (texts n (machine items s)) ≡ Ok (opened_at (steps n (machine items s)).state)
-unfolding texts steps turn
+unfolding after turn
 after_turns_remade zero items s fit = refl
-after_turns_remade (suc n) [] s fit = after_turns_remade n [] s fit
+after_turns_remade (suc n) [] s fit = refl
 after_turns_remade (suc n) (item ∷ items) s fit =
     let one = step_remade item s fit in
     replayed_on (step_of item s).texts (texts n (machine items (step_of item s).next)) (opened_at s) (opened_at (step_of item s).next) one.0
     ∙ after_turns_remade n items (step_of item s).next one.1
 
-pub run_remade : (items : List Item) (s : State) → IsFit s → replayed (opened_at s) (texts_of (machine items s)) ≡ Ok (opened_at (steps (length items) (machine items s)).state)
-unfolding texts_of
+pub run_remade : (items : List Item) (s : State) → IsFit s → replayed (opened_at s) (texts_of (machine items s)) ≡ Ok (opened_at (last_state (machine items s)))
+unfolding whole
 run_remade items s fit = after_turns_remade (length items) items s fit
 
 -- the texts of an old log give what it gives

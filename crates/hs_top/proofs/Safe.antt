@@ -3,25 +3,28 @@ use Rattle.std.proofs.Common.{◌≡◌, ◌⊎◌, ℕ, suc, Bool, true, false,
 use Rattle.hs_entries.specs.declared.item.Item.{Item}
 use Rattle.hs_entries.specs.declared.item.Item.TheVariants.{Entry, Bad, TooLong, End}
 use Rattle.hs_entries.specs.Items.{items}
-use Rattle.hs_gate.specs.Groups.{groups_of, is_born}
+use Rattle.hs_gate.specs.Groups.{Groups, groups_of, is_born}
+use Rattle.hs_log.specs.Log.{IsLogOf}
 use Rattle.hs_host.specs.declared.file_kind.FileKind.TheVariants.{Log}
 use Rattle.hs_host.specs.Disk.{Pending, Leaves, settled}
 use Rattle.hs_host.specs.Moments.{Moment, History, Since, disk_of}
 use Rattle.hs_host.proofs.Passing.{since_none, since_now}
-use Rattle.hs_top.specs.declared.reply.Reply.{Reply}
+use Rattle.hs_machine.specs.declared.reply.Reply.{Reply}
+use Rattle.hs_machine.specs.Machine.{after, whole}
+use Rattle.hs_machine.specs.Replies.{is_commit}
 use Rattle.hs_top.specs.declared.status.Status.{Status}
 use Rattle.hs_top.specs.declared.statement.Statement.{Statement}
 use Rattle.hs_top.specs.Crash.{Survives, IsSafe, IsSafeFromOpening, HasLog, GivesSame, IsOpening, AcknowledgesBehind, opened_after}
 use Rattle.hs_top.specs.Database.{performed}
 use Rattle.hs_top.specs.Holding.{Holds, IsHeld}
 use Rattle.hs_top.specs.CommitText.{commit_text}
-use Rattle.hs_top.specs.Machine.{State, machine, step_of, entered, logged, is_commit, turn, steps, texts, texts_of}
+use Rattle.hs_top.specs.Machine.{State, machine, step_of, entered, logged, turn, texts, texts_of}
 use Rattle.hs_top.specs.Opening.{Opened, nothing_logged, replayed, opened_of, texts_at, texts_from, begun_with}
 use Rattle.hs_top.specs.Running.{has_opened}
 use Rattle.hs_top.specs.Sessions.{Admitted, admitted}
 use Rattle.hs_top.specs.Statement.{statement_of}
 use Rattle.hs_top.proofs.Prefixes.{split_front}
-use Rattle.hs_top.proofs.Acknowledged.{tells_nothing}
+use Rattle.hs_machine.proofs.Acknowledged.{tells_nothing}
 use Rattle.hs_top.proofs.Reopened.{replayed_on, old_gives, last_session, after_turns_remade, commits_of_texts}
 
 -- a step logs one text or none
@@ -52,7 +55,7 @@ few_texts End s = inl refl
 
 -- a prefix of the texts of a run are the texts of its first turns
 pub front_of_texts : (items : List Item) (s : State) (front rest : List (List ℕ)) → front ++ rest ≡ texts_of (machine items s) → (n : ℕ) × (front ≡ texts n (machine items s))
-unfolding texts_of texts turn IsFew
+unfolding after whole turn IsFew
 front_of_texts [] s [] rest is = (0, refl)
 front_of_texts [] s (t ∷ front) rest is = absurd (cc)
 front_of_texts (item ∷ items) s [] rest is = (0, refl)
@@ -79,24 +82,31 @@ nothing_before (t ∷ front) rest is = absurd (cc)
 pub born_texts : (log : List ℕ) → is_born log ≡ true → texts_at log ≡ (groups_of log).payloads
 born_texts log born = ap (λ (b : Bool). cond b (groups_of log).payloads []) born
 
+-- a log of the program gives what its texts give
+log_gives : (log : List ℕ) (texts : List (List ℕ)) (opened : Opened) → IsLogOf 1 texts log → replayed nothing_logged (groups_of log).payloads ≡ Ok opened → opened_of log ≡ Ok opened
+log_gives log texts opened is replays =
+    let whole : (groups_of log).is_broken ≡ false = ap (λ (g : Groups). g.is_broken) is.groups.groups in
+    grind (arith, is.born, is.groups.opened, is.groups.epoch_is, whole, replays)
+
 -- such a log gives what the first turns made
 pub survives : (old : List ℕ) (opened : Opened) (input before out log : List ℕ) → opened_of old ≡ Ok opened
     → Holds (length (texts_at old)) (texts_at old ++ texts_from opened input) before out log → Survives old opened input before out log
 survives old opened input before out log is held =
     let payloads = (groups_of log).payloads in
+    let same : payloads ≡ held.texts = ap (λ (g : Groups). g.payloads) held.is.groups.groups in
     let given = old_gives old opened is in
     let session = last_session (texts_at old) nothing_logged opened tt given in
-    let parts = split_front payloads held.rest (texts_at old) (texts_from opened input) held.texts held.enough in
+    let parts = split_front held.texts held.rest (texts_at old) (texts_from opened input) held.prefix held.enough in
     let made = front_of_texts (items 1 input) (begun_with opened) parts.0 held.rest parts.1.1 in
     let after = after_turns_remade made.0 (items 1 input) (begun_with opened) (record { few = omega arith; last = session }) in
     let replays : replayed nothing_logged payloads ≡ Ok (opened_after made.0 opened input) =
-    ap (λ (ts : List (List ℕ)). replayed nothing_logged ts) (parts.1.0 ∙ ap (λ (ts : List (List ℕ)). texts_at old ++ ts) made.1)
+    ap (λ (ts : List (List ℕ)). replayed nothing_logged ts) (same ∙ parts.1.0 ∙ ap (λ (ts : List (List ℕ)). texts_at old ++ ts) made.1)
     ∙ replayed_on (texts_at old) _ nothing_logged opened given ∙ after in
     record {
       turns = made.0;
-      reopens = grind (arith, held.born, held.opened, held.epoch, held.whole, replays);
-      texts = born_texts log held.born ∙ parts.1.0 ∙ ap (λ (ts : List (List ℕ)). texts_at old ++ ts) made.1;
-      told = subst (AcknowledgesBehind before out) (let count : length payloads ≡ (opened_after made.0 opened input).database.commits = omega (arith, commits_of_texts payloads nothing_logged (opened_after made.0 opened input) replays) in count) held.told;
+      reopens = log_gives log held.texts (opened_after made.0 opened input) held.is replays;
+      texts = born_texts log held.is.born ∙ same ∙ parts.1.0 ∙ ap (λ (ts : List (List ℕ)). texts_at old ++ ts) made.1;
+      told = subst (AcknowledgesBehind before out) (let count : length held.texts ≡ (opened_after made.0 opened input).database.commits = omega (arith, ap length same, commits_of_texts payloads nothing_logged (opened_after made.0 opened input) replays) in count) held.told;
     }
 
 pub safe : (old : List ℕ) (opened : Opened) (input before : List ℕ) (m : Moment) → opened_of old ≡ Ok opened
@@ -107,15 +117,14 @@ safe old opened input before m is held log left = survives old opened input befo
 pub held_same : (old : List ℕ) (opened : Opened) (before out log : List ℕ) → opened_of old ≡ Ok opened → Holds (length (texts_at old)) (texts_at old ++ []) before out log → GivesSame old log
 held_same old opened before out log is held =
     let payloads = (groups_of log).payloads in
-    let parts = split_front payloads held.rest (texts_at old) [] held.texts held.enough in
-    let same : payloads ≡ texts_at old = parts.1.0 ∙ ap (λ (ts : List (List ℕ)). texts_at old ++ ts) (nothing_before parts.0 held.rest parts.1.1) ∙ append-nil (texts_at old) in
+    let parts = split_front held.texts held.rest (texts_at old) [] held.prefix held.enough in
+    let same : payloads ≡ texts_at old = ap (λ (g : Groups). g.payloads) held.is.groups.groups ∙ parts.1.0 ∙ ap (λ (ts : List (List ℕ)). texts_at old ++ ts) (nothing_before parts.0 held.rest parts.1.1) ∙ append-nil (texts_at old) in
     let replays : replayed nothing_logged payloads ≡ Ok opened = ap (λ (ts : List (List ℕ)). replayed nothing_logged ts) same ∙ old_gives old opened is in
-    let gives : opened_of log ≡ Ok opened = grind (arith, held.born, held.opened, held.epoch, held.whole, replays) in
-    (gives ∙ sym is, born_texts log held.born ∙ same)
+    (log_gives log held.texts opened held.is replays ∙ sym is, born_texts log held.is.born ∙ same)
 
 -- a log that gives what the old one gives, while nothing is told
 pub same_survives : (old : List ℕ) (opened : Opened) (input before out log : List ℕ) → opened_of old ≡ Ok opened → out ≡ before → GivesSame old log → Survives old opened input before out log
-unfolding steps texts
+unfolding after
 same_survives old opened input before out log is told same = record {
   turns = 0;
   reopens = same.0 ∙ is;

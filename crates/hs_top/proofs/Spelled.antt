@@ -7,7 +7,7 @@ use Rattle.hs_values.specs.declared.value.Value.{Value}
 use Rattle.hs_top.specs.declared.statement.Statement.{Statement}
 use Rattle.hs_top.specs.declared.statement.Statement.TheVariants.{Create, Insert, Select}
 use Rattle.hs_top.specs.Statement.{◌>>=◌, after, name_of, column_of, value_of, list_from, create_of, insert_of, select_of, statement_of}
-use Rattle.hs_top.specs.Lines.{joined, value_text, row_text}
+use Rattle.hs_machine.specs.Values.{joined, value_text, row_text}
 use Rattle.hs_top.specs.Spelling.{IsName, IsBigint, IsSpellable, column_text, spelled}
 use Rattle.hs_top.proofs.Numerals.{bind_some, bind_is, after_split, after_back, NoDigit, name_spelled, name_back, column_spelled, column_back, value_spelled, value_back}
 use Rattle.hs_top.proofs.Listed.{Reads, Parts, list_spelled, list_back}

@@ -7,13 +7,13 @@ use Rattle.std.proofs.lemmas.Option.{same_Some}
 use Rattle.std.proofs.lemmas.Slice.Eq.{bytes_eq-Decides}
 use Rattle.hs_values.specs.declared.value.Value.{Value}
 use Rattle.hs_top.specs.declared.database.Database.{Database}
-use Rattle.hs_top.specs.declared.refusal.Refusal.TheVariants.{NotBuilt}
+use Rattle.hs_machine.specs.declared.refusal.Refusal.TheVariants.{NotBuilt}
 use Rattle.hs_top.specs.declared.statement.Statement.{Statement}
 use Rattle.hs_top.specs.declared.statement.Statement.TheVariants.{Create, Insert, Select}
 use Rattle.hs_top.specs.declared.table.Table.{Table}
 use Rattle.hs_top.specs.Database.{Outcome, table_of, with_row, executed, created, inserted, selected, refused, committed, first_repeated, named_by}
 use Rattle.hs_top.specs.Entries.{Entries}
-use Rattle.hs_top.specs.Machine.{is_commit}
+use Rattle.hs_machine.specs.Replies.{is_commit}
 
 apart : (a b : List ℕ) → (a ≡ b → ⊥) → bytes_eq a b ≡ false
 apart a b differ = turned (bytes_eq a b) refl

@@ -1,35 +1,35 @@
--- Which commits an output acknowledges.
-use Rattle.std.specs.Prelude.{◌≡◌, ℕ, ◌<◌, ◌≤◌, ◌^◌, true, List, [], ◌∷◌, ◌++◌, codes, ◌⊎◌}
+-- Which items have names of sessions without a line feed.
+use Rattle.std.specs.Prelude.{◌≡◌, ℕ, ◌&&◌, Bool, true, List, [], ◌∷◌, codes}
 use Rattle.hs_entries.specs.declared.item.Item.{Item}
-use Rattle.hs_entries.specs.declared.item.Item.TheVariants.{Entry}
+use Rattle.hs_entries.specs.declared.item.Item.TheVariants.{Entry, Bad, TooLong, End}
 use Rattle.hs_entries.specs.Parts.{lacks}
-use Rattle.hs_top.specs.Lines.{committed_text}
+use Rattle.hs_top.specs.Machine.{Position}
 
--- A whole line of these bytes ends in ` committed n`. A number of more than 64 digits isn't written in full.
-pub record Acknowledges (out : List ℕ) (n : ℕ) : Type 0 where
-  pub before : List ℕ
-  pub behind : List ℕ
-  pub small : n < 10 ^ 64
-  pub is : out ≡ before ++ committed_text n ++ codes "\n" ++ behind
+-- the number of an item; the end has none
+abbrev pub number_of : Item → ℕ
+number_of (Entry number name text at) = number
+number_of (Bad number) = number
+number_of (TooLong number) = number
+number_of End = 0
 
--- the greatest commit that these bytes tell of is at most this one
-abbrev pub AcknowledgesAtMost : List ℕ → ℕ → Type 0
-AcknowledgesAtMost out most = (n : ℕ) → Acknowledges out n → n ≤ most
-
--- the bytes are whole lines
-abbrev pub EndsLine : List ℕ → Type 0
-EndsLine out = (out ≡ []) ⊎ ((line : List ℕ) × (out ≡ line ++ codes "\n"))
-
--- whole lines that tell of no commit beyond this one
-pub record AcknowledgesLines (out : List ℕ) (most : ℕ) : Type 0 where
-  pub told : AcknowledgesAtMost out most
-  pub ends : EndsLine out
+-- the name of its session, and `-` where it is of none
+abbrev pub session_of : Item → List ℕ
+session_of (Entry number name text at) = name
+session_of (Bad number) = codes "-"
+session_of (TooLong number) = codes "-"
+session_of End = codes "-"
 
 -- the name of its session has no line feed
-abbrev pub IsNamed : Item → Type 0
-IsNamed (Entry number name text at) = lacks 10 name ≡ true
-IsNamed _ = Unit {0}
+abbrev pub is_named : Item → Bool
+is_named i = lacks 10 (session_of i)
 
-abbrev pub Each : (Item → Type 0) → List Item → Type 0
-Each P [] = Unit {0}
-Each P (item ∷ items) = P item × Each P items
+abbrev pub IsNamed : Item → Type 0
+IsNamed i = is_named i ≡ true
+
+abbrev pub are_named : List Item → Bool
+are_named [] = true
+are_named (item ∷ items) = is_named item && are_named items
+
+-- a run of such items
+abbrev pub has_names : Position → Bool
+has_names p = are_named p.items

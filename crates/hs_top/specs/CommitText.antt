@@ -5,7 +5,7 @@ use Rattle.std.specs.List.{prefix_len}
 use Rattle.hs_top.specs.declared.commit_text.Commit.{Commit}
 use Rattle.hs_top.specs.declared.statement.Statement.{Statement}
 use Rattle.hs_top.specs.declared.statement.Statement.TheVariants.{Create, Insert, Select}
-use Rattle.hs_top.specs.Lines.{joined, row_text}
+use Rattle.hs_machine.specs.Values.{joined, row_text}
 use Rattle.hs_top.specs.Spelling.{IsSpellable, column_text}
 use Rattle.hs_top.specs.Statement.{◌>>=◌, after, is_digit, session_of, create_of, insert_of}
 

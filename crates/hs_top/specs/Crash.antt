@@ -10,7 +10,7 @@ use Rattle.hs_top.specs.declared.status.Status.{Status}
 use Rattle.hs_top.specs.Machine.{machine, steps, texts}
 use Rattle.hs_top.specs.Opening.{Opened, nothing_logged, opened_of, opened_at, texts_at, begun_with}
 use Rattle.hs_top.specs.Running.{has_opened}
-use Rattle.hs_top.specs.Acknowledged.{AcknowledgesAtMost}
+use Rattle.hs_machine.specs.Acknowledged.{AcknowledgesAtMost}
 
 -- what a log gives that has all commits of the first so many turns of a run
 abbrev pub opened_after : ℕ → Opened → List ℕ → Opened

@@ -10,11 +10,11 @@ use Rattle.hs_top.specs.declared.table.Table.{Table}
 use Rattle.hs_top.specs.declared.table.Adding.{Adding}
 use Rattle.hs_top.specs.declared.table.Adding.TheVariants.{Added, NoTable, OtherLength}
 use Rattle.hs_top.specs.declared.database.Database.{Database}
-use Rattle.hs_top.specs.declared.reply.Reply.{Reply}
-use Rattle.hs_top.specs.declared.reply.Reply.TheVariants.{Done, Refused}
+use Rattle.hs_machine.specs.declared.reply.Reply.{Reply}
+use Rattle.hs_machine.specs.declared.reply.Reply.TheVariants as reply
 use Rattle.hs_top.specs.Entries.{Entries}
-use Rattle.hs_top.specs.declared.refusal.Refusal.{Refusal}
-use Rattle.hs_top.specs.declared.refusal.Refusal.TheVariants.{NotBuilt, Exists, NoSuch}
+use Rattle.hs_machine.specs.declared.refusal.Refusal.{Refusal}
+use Rattle.hs_machine.specs.declared.refusal.Refusal.TheVariants.{NotBuilt, NoSuch, Exists}
 
 abbrev pub new_database : Database
 new_database = record { tables = []; commits = 0 }
@@ -55,22 +55,19 @@ pub record Repeats (names : List (List ℕ)) (name : List ℕ) : Type 0 where
   pub again : is_among name before ≡ true
   pub first : first_repeated [] before ≡ None
 
--- What a statement does: the rows of its answer, its final reply, and the database after it. Only a
--- query has rows.
+-- What a statement does: its final reply, and the database after it.
 pub record Outcome : Type 0 where
-  pub rows : List (List Value)
   pub reply : Reply
   pub database : Database
 
 -- refused, and nothing is changed
 abbrev pub refused : Database → Refusal → Outcome
-refused db why = record { rows = []; reply = Refused why; database = db }
+refused db why = record { reply = reply.Refused why; database = db }
 
 -- committed under the next number
 abbrev pub committed : Database → Entries → Option ℕ → Outcome
 committed db tables count = record {
-  rows = [];
-  reply = Done count (Some (db.commits + 1));
+  reply = reply.Ok None count (Some (record { 0 = db.commits + 1 }));
   database = record { tables = tables; commits = db.commits + 1 };
 }
 
@@ -91,8 +88,7 @@ inserted db name row (Some table) =
 abbrev pub selected : Database → List ℕ → Option Table → Outcome
 selected db name None = refused db (NoSuch name)
 selected db name (Some table) = record {
-  rows = sorted_rows table.rows;
-  reply = Done (Some (length table.rows)) None;
+  reply = reply.Ok (Some (sorted_rows table.rows)) (Some (length table.rows)) None;
   database = db;
 }
 

@@ -1,3 +1,4 @@
+pub mod Answers
 pub mod Command
 pub mod CommitText
 pub mod Crash
@@ -5,13 +6,12 @@ pub mod Damaged
 pub mod Database
 pub mod Entries
 pub mod Holding
-pub mod Lines
 pub mod Machine
 pub mod Opening
-pub mod Replies
 pub mod Running
 pub mod Sessions
 pub mod Spelling
 pub mod Statement
 pub mod Status
+pub mod Stop
 pub mod Acknowledged

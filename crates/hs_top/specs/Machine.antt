@@ -1,19 +1,20 @@
 -- The machine that the program is: its turns, what it writes, and what it logs.
-use Rattle.std.specs.Prelude.{◌≡◌, ℕ, zero, suc, ◌+◌, ◌≤◌, Bool, true, false, List, [], ◌∷◌, ◌++◌, length, take, Option, None, Some, if◌then◌else◌}
+use Rattle.std.specs.Prelude.{◌≡◌, ℕ, ◌+◌, ◌≤◌, List, [], ◌∷◌, ◌++◌, length, take, Option, None, Some, if◌then◌else◌}
 use Rattle.hs_entries.specs.declared.item.Item.{Item}
 use Rattle.hs_entries.specs.declared.item.Item.TheVariants as item
 use Rattle.hs_entries.specs.Items.{items, whole_items}
+use Rattle.hs_machine.specs.declared.refusal.Refusal.{Refusal}
+use Rattle.hs_machine.specs.declared.refusal.Refusal.TheVariants.{TooLong, Entry, Sessions}
+use Rattle.hs_machine.specs.declared.reply.Reply.{Reply}
+use Rattle.hs_machine.specs.Lines.{Line, OpenedAt, RefusedOf, no_session, printed_line, printed}
+use Rattle.hs_machine.specs.Machine.{Turn, Machine, after, whole, rest_of as lines_to_the_end, transcript as lines_of_the_run}
+use Rattle.hs_machine.specs.Replies.{is_commit, reply_lines}
 use Rattle.hs_top.specs.declared.statement.Statement.{Statement}
 use Rattle.hs_top.specs.Statement.{statement_of}
 use Rattle.hs_top.specs.CommitText.{commit_text}
 use Rattle.hs_top.specs.declared.database.Database.{Database}
-use Rattle.hs_top.specs.declared.refusal.Refusal.{Refusal}
-use Rattle.hs_top.specs.declared.refusal.Refusal.TheVariants.{TooLong, Entry, Sessions}
-use Rattle.hs_top.specs.declared.reply.Reply.{Reply}
-use Rattle.hs_top.specs.declared.reply.Reply.TheVariants.{Done, Refused}
 use Rattle.hs_top.specs.Database.{performed, Outcome}
 use Rattle.hs_top.specs.Sessions.{Admitted, admitted}
-use Rattle.hs_top.specs.Lines.{outcome_lines, reply_line, opened_line, closed_line, no_session}
 
 -- The names of the sessions so far, the session of the last commit that was logged, and the database.
 pub record State : Type 0 where
@@ -23,18 +24,13 @@ pub record State : Type 0 where
 
 -- one step: the lines that it writes, the texts of the commits that it logs, and the state after it
 pub record Step : Type 0 where
-  pub lines : List ℕ
+  pub lines : List Line
   pub texts : List (List ℕ)
   pub next : State
 
 -- one line, and nothing is changed
 abbrev pub refusing : ℕ → List ℕ → Refusal → State → Step
-refusing number name why s = record { lines = reply_line number name (Refused why); texts = []; next = s }
-
-abbrev pub is_commit : Reply → Bool
-is_commit (Done count (Some n)) = true
-is_commit (Done count None) = false
-is_commit (Refused why) = false
+refusing number name why s = record { lines = RefusedOf number name why ∷ []; texts = []; next = s }
 
 abbrev pub commits_after : ℕ → Reply → ℕ
 commits_after commits reply = if is_commit reply then commits + 1 else commits
@@ -54,7 +50,7 @@ last_after last session reply = if is_commit reply then Some session else last
 -- a statement of a session did this
 abbrev pub did : ℕ → List ℕ → Admitted → Option Statement → State → Outcome → Step
 did number name session statement s outcome = record {
-  lines = outcome_lines number name outcome;
+  lines = reply_lines number name outcome.reply;
   texts = logged s.last session.number statement outcome.reply;
   next = record {
     sessions = session.sessions;
@@ -75,62 +71,50 @@ step_of (item.TooLong number) s = refusing number no_session TooLong s
 step_of item.End s = record { lines = []; texts = []; next = s }
 
 -- the items that are not read yet, and the state
-pub record Machine : Type 0 where
+pub record Position : Type 0 where
   pub items : List Item
   pub state : State
 
-abbrev pub machine : List Item → State → Machine
+abbrev pub machine : List Item → State → Position
 machine items state = record { items = items; state = state }
 
--- one turn of the machine
-pub record Turn : Type 0 where
-  pub lines : List ℕ
-  pub texts : List (List ℕ)
-  pub next : Machine
+abbrev pub after_step : List Item → Step → Turn Position (List ℕ)
+after_step items step = record { lines = step.lines; commits = step.texts; next = machine items step.next }
 
-abbrev pub after_step : List Item → Step → Turn
-after_step items step = record { lines = step.lines; texts = step.texts; next = machine items step.next }
+-- The next item is read and answered.
+abbrev pub from_input : List Item → State → Option (Turn Position (List ℕ))
+from_input [] s = None
+from_input (item ∷ items) s = Some (after_step items (step_of item s))
 
--- The next item is read and answered. Without one nothing happens.
-abbrev pub from_input : List Item → State → Turn
-from_input [] s = record { lines = []; texts = []; next = machine [] s }
-from_input (item ∷ items) s = after_step items (step_of item s)
+unfoldable pub turn : Position → Option (Turn Position (List ℕ))
+turn p = from_input p.items p.state
 
-unfoldable pub turn : Machine → Turn
-turn m = from_input m.items m.state
+-- The machine that answers one item after another. A commit of it is the text that is logged.
+abbrev pub one_by_one : Machine Position (List ℕ)
+one_by_one = record { turn = turn; commits = λ p. p.state.database.commits; weight = λ p. length p.items }
 
--- no turn is left
-abbrev pub IsOver : Machine → Type 0
-IsOver m = m.items ≡ []
+-- where it is after so many turns, and the texts that they log
+abbrev pub steps : ℕ → Position → Position
+steps n p = (after one_by_one n p).next
 
--- the machine after so many turns, the lines that they write, and the texts that they log
-unfoldable pub steps : ℕ → Machine → Machine
-steps zero m = m
-steps (suc n) m = steps n (turn m).next
-
-unfoldable pub lines : ℕ → Machine → List ℕ
-lines zero m = []
-lines (suc n) m = (turn m).lines ++ lines n (turn m).next
-
-unfoldable pub texts : ℕ → Machine → List (List ℕ)
-texts zero m = []
-texts (suc n) m = (turn m).texts ++ texts n (turn m).next
-
--- how many turns are left
-abbrev pub turns_left : Machine → ℕ
-turns_left m = length m.items
+abbrev pub texts : ℕ → Position → List (List ℕ)
+texts n p = (after one_by_one n p).commits
 
 -- the lines of all turns that are left
-unfoldable pub lines_of : Machine → List ℕ
-lines_of m = lines (turns_left m) m
+abbrev pub lines_of : Position → List ℕ
+lines_of p = printed (whole one_by_one p).lines
 
 -- the texts of all commits that are left
-unfoldable pub texts_of : Machine → List (List ℕ)
-texts_of m = texts (turns_left m) m
+abbrev pub texts_of : Position → List (List ℕ)
+texts_of p = (whole one_by_one p).commits
+
+-- the state at the end
+abbrev pub last_state : Position → State
+last_state p = (whole one_by_one p).next.state
 
 -- what is written from here to the end of the run
-unfoldable pub rest_of : Machine → List ℕ
-rest_of m = lines (turns_left m) m ++ closed_line (steps (turns_left m) m).state.database.commits
+abbrev pub rest_of : Position → List ℕ
+rest_of p = printed (lines_to_the_end one_by_one p)
 
 -- The state in which a run begins: what its log gave, and no session.
 abbrev pub begun : Option ℕ → Database → State
@@ -138,11 +122,11 @@ begun last database = record { sessions = []; last = last; database = database }
 
 -- all that is written for an input: the first line, the lines of all turns, the last line
 abbrev pub transcript : State → List ℕ → List ℕ
-transcript s input = opened_line s.database.commits ++ rest_of (machine (items 1 input) s)
+transcript s input = printed (lines_of_the_run one_by_one (machine (items 1 input) s))
 
 -- the first line, and the lines of the turns on the items that are whole in the first bytes of an input
 abbrev pub transcript_within : ℕ → State → List ℕ → List ℕ
-transcript_within limit s input = opened_line s.database.commits ++ lines_of (machine (whole_items 1 (take limit input)) s)
+transcript_within limit s input = printed_line (OpenedAt s.database.commits) ++ lines_of (machine (whole_items 1 (take limit input)) s)
 
 -- what was written since is a prefix of these bytes
 pub record WritesPrefix (old new whole : List ℕ) : Type 0 where

@@ -8,7 +8,8 @@ use Rattle.hs_top.specs.declared.database.Database.{Database}
 use Rattle.hs_top.specs.declared.opening.Opening.{Opening}
 use Rattle.hs_top.specs.CommitText.{commit_of}
 use Rattle.hs_top.specs.Database.{new_database, executed, Outcome}
-use Rattle.hs_top.specs.Machine.{State, begun, is_commit, machine, transcript, steps, turns_left, texts_of}
+use Rattle.hs_machine.specs.Replies.{is_commit}
+use Rattle.hs_top.specs.Machine.{State, begun, machine, transcript, texts_of, last_state}
 use Rattle.hs_top.specs.Statement.{◌>>=◌}
 
 -- the session of the last commit, none where there is none, and the database
@@ -81,9 +82,7 @@ opened_at s = record { last = s.last; database = s.database }
 
 -- what it gives when the run has ended
 abbrev pub ended_with : Opened → List ℕ → Opened
-ended_with opened input =
-    let m = machine (items 1 input) (begun_with opened) in
-    opened_at (steps (turns_left m) m).state
+ended_with opened input = opened_at (last_state (machine (items 1 input) (begun_with opened)))
 
 -- a log that is born and open with epoch 1, whose groups are these texts, and behind whose groups nothing
 -- stands but one gate that isn't open

@@ -1,19 +1,22 @@
 -- What a program at work stands for.
-use Rattle.std.specs.Prelude.{◌≡◌, ℕ, ◌+◌, ◌*◌, ◌≤◌, Bool, true, false, List, None}
-use Rattle.hs_host.specs.Files.{Five, with_}
+use Rattle.std.specs.Prelude.{◌≡◌, ℕ, ◌<◌, ◌≤◌, Bool, true, false, List, [], ◌++◌, None}
+use Rattle.hs_host.specs.declared.source.Source as source
+use Rattle.hs_host.specs.declared.host.Host as host
+use Rattle.hs_host.specs.Files.{Five, with_, IsOpen}
+use Rattle.hs_host.specs.Used.{Told}
 use Rattle.hs_host.specs.declared.file_kind.FileKind.TheVariants.{Log}
 use Rattle.hs_entries.specs.declared.item.Item.{Item}
 use Rattle.hs_entries.specs.declared.item.Item.TheVariants as item
-use Rattle.hs_entries.specs.Left.{RunsOut}
-use Rattle.hs_entries.specs.Reader.{left, left_items, left_whole, kept}
-use Rattle.hs_gate.specs.Gated.{IsAtRest}
-use Rattle.hs_gate.specs.Groups.{is_born, groups_of}
+use Rattle.hs_entries.specs.Left.{RunsOut, KeepsRoom}
+use Rattle.hs_entries.specs.Reader.{AgreesWith, ahead, has_ended, kept as fault_kept, left, left_items, left_whole, room}
+use Rattle.hs_gate.specs.Groups.{groups_of}
+use Rattle.hs_log.specs.Log.{IsLog, HasRoom}
 use Rattle.hs_top.specs.declared.running.Running.{Running}
 use Rattle.hs_top.specs.declared.statement_log.StatementLog.{StatementLog}
 use Rattle.hs_top.specs.declared.status.Status.{Status}
 use Rattle.hs_top.specs.declared.status.Status.TheVariants.{Done, Usage, InputFault, OutputFault, DiskFault, NoMemory, Damaged, InputTooLong}
 use Rattle.hs_top.specs.declared.work.Work.{Work}
-use Rattle.hs_top.specs.Machine.{State, Machine, machine}
+use Rattle.hs_top.specs.Machine.{State, Position, machine, rest_of, lines_of, texts_of}
 
 -- the texts of the commits in a log
 abbrev pub texts_in : Five (List ℕ) → List (List ℕ)
@@ -23,43 +26,63 @@ texts_in files = (groups_of files.log).payloads
 abbrev pub OnlyLog : Five (List ℕ) → Five (List ℕ) → Type 0
 OnlyLog old new = new ≡ with_ old Log new.log
 
--- the log is born and is read as this, and nothing stands behind the gate that ends its groups
-pub record IsLog (files : Five (List ℕ)) (log : StatementLog) : Type 0 where
-  pub born : is_born files.log ≡ true
-  pub rest : IsAtRest files log.gated
+-- A host and a log of so many commits, which the program writes on: the host's files are open, the log has the first
+-- epoch, each commit has a group in it, and the host has it as it is kept here, on the disk too.
+pub record Stands {H : Type 0} (s : source.Ghosts H) (g : host.Ghosts H) (kept : StatementLog) (commits : ℕ) (h : H) : Type 0 where
+  pub opened : IsOpen (g.standing h)
+  pub epoch : kept.gated.epoch ≡ 1
+  pub room : HasRoom commits kept.gated
+  pub log : Told s g h → IsLog (g.history h) (g.files h) kept.gated
 
--- the log of this program
-pub record IsSound (log : StatementLog) : Type 0 where
-  pub file : log.gated.file ≡ Log
-  pub epoch : log.gated.epoch ≡ 1
+-- Output and files were used: the input is as before, no count of faults fell, and of the files only the log was changed.
+pub record UsesWork {H : Type 0} (s : source.Ghosts H) (g : host.Ghosts H) (old new : H) : Type 0 where
+  pub standing : g.standing new ≡ g.standing old
+  pub unread : s.unread new ≡ s.unread old
+  pub input_faults : s.input_faults new ≡ s.input_faults old
+  pub output_later : g.output_faults old ≤ g.output_faults new
+  pub disk_later : g.disk_faults old ≤ g.disk_faults new
+  pub others : Told s g old → OnlyLog (g.files old) (g.files new)
 
--- so many commits have groups in the log
-abbrev pub HasRoom : ℕ → StatementLog → Type 0
-HasRoom commits log = commits * 9 + 10 ≤ log.gated.end
+-- Input and output were used, and no file.
+pub record UsesStreams {H : Type 0} (s : source.Ghosts H) (g : host.Ghosts H) (old new : H) : Type 0 where
+  pub standing : g.standing new ≡ g.standing old
+  pub files : g.files new ≡ g.files old
+  pub disk_faults : g.disk_faults new ≡ g.disk_faults old
+  pub input_later : s.input_faults old ≤ s.input_faults new
+  pub output_later : g.output_faults old ≤ g.output_faults new
 
 abbrev pub state_of : Work → State
 state_of w = record { sessions = w.sessions; last = w.log.last; database = w.database }
 
--- every commit has a group in the log
-pub record IsWhole (w : Work) : Type 0 where
-  pub sound : IsSound w.log
-  pub room : HasRoom w.database.commits w.log
-
 -- the machine with all items that are left, the host having so much left
-abbrev pub machine_of : Running → List ℕ → Machine
+abbrev pub machine_of : Running → List ℕ → Position
 machine_of r unread = machine (left_items r.reader unread) (state_of r.work)
 
 -- the machine with those that are whole within the limit
-abbrev pub machine_within : Running → List ℕ → Machine
+abbrev pub machine_within : Running → List ℕ → Position
 machine_within r unread = machine (left_whole r.reader unread) (state_of r.work)
 
 -- the input goes past the limit
 abbrev pub IsTooLong : Running → List ℕ → Type 0
 IsTooLong r unread = RunsOut (left r.reader unread)
 
-pub record IsSane (r : Running) : Type 0 where
-  pub reader : kept r.reader ≡ None
-  pub work : IsWhole r.work
+-- the run may take its next turn
+pub record IsSane {H : Type 0} (s : source.Ghosts H) (g : host.Ghosts H) (r : Running) (h : H) : Type 0 where
+  pub reader : fault_kept r.reader ≡ None
+  pub agrees : s.tells → AgreesWith r.reader (s.unread h)
+  pub stands : Stands s g r.work.log r.work.database.commits h
+
+-- What is left to be written and logged is what was left before, with what is gathered; and the reader counts what it takes.
+pub record GoesOn {H : Type 0} (s : source.Ghosts H) (g : host.Ghosts H) (old_run : Running) (old : H) (new_run : Running) (new : H) : Type 0 where
+  pub lines : s.tells → g.written new ++ (new_run.output ++ rest_of (machine_of new_run (s.unread new))) ≡ g.written old ++ (old_run.output ++ rest_of (machine_of old_run (s.unread old)))
+  pub within : s.tells → IsTooLong old_run (s.unread old) → g.written new ++ (new_run.output ++ lines_of (machine_within new_run (s.unread new))) ≡ g.written old ++ (old_run.output ++ lines_of (machine_within old_run (s.unread old)))
+  pub texts : Told s g old → texts_in (g.files new) ++ texts_of (machine_of new_run (s.unread new)) ≡ texts_in (g.files old) ++ texts_of (machine_of old_run (s.unread old))
+  pub count : s.tells → KeepsRoom (left old_run.reader (s.unread old)) (left new_run.reader (s.unread new))
+
+-- There was an item, which was read, or the input is at its end.
+pub record HasTurned (old new : Running) (more : Bool) : Type 0 where
+  pub used : more ≡ true → room new.reader < room old.reader
+  pub end : more ≡ false → (has_ended new.reader ≡ true) × (ahead new.reader ≡ [])
 
 abbrev pub is_end : Item → Bool
 is_end item.End = true

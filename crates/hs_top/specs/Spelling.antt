@@ -7,7 +7,7 @@ use Rattle.hs_values.specs.declared.value.Value.TheVariants.{Int}
 use Rattle.hs_top.specs.declared.statement.Statement.{Statement}
 use Rattle.hs_top.specs.declared.statement.Statement.TheVariants.{Create, Insert, Select}
 use Rattle.hs_top.specs.Statement.{is_capital, is_digit}
-use Rattle.hs_top.specs.Lines.{joined, row_text}
+use Rattle.hs_machine.specs.Values.{joined, row_text}
 
 -- one capital letter and up to seven digits
 abbrev pub IsName : List ℕ → Type 0

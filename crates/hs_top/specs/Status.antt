@@ -1,8 +1,8 @@
 -- The numbers of the statuses, which the program ends with.
 use Rattle.std.specs.Prelude.{ℕ}
-use Rattle.hs_gate.specs.declared.gate_fault.GateFault.{GateFault}
-use Rattle.hs_gate.specs.declared.gate_fault.GateFault.TheVariants as gate
 use Rattle.hs_top.specs.declared.damage.Damage.TheVariants.{Log}
+use Rattle.hs_top.specs.declared.stop.Stop.{Stop}
+use Rattle.hs_top.specs.declared.stop.Stop.TheVariants as stop
 use Rattle.hs_top.specs.declared.status.Status.{Status}
 use Rattle.hs_top.specs.declared.status.Status.TheVariants.{Done, Usage, InputFault, OutputFault, DiskFault, NoMemory, Damaged, InputTooLong}
 
@@ -16,8 +16,11 @@ number_of NoMemory = 5
 number_of (Damaged damage) = 6
 number_of InputTooLong = 7
 
--- what a fault of the log's file is for the run
-abbrev pub status_of : GateFault → Status
-status_of gate.Disk = DiskFault
-status_of (gate.Broken group) = Damaged (Log group)
-status_of gate.NoMemory = NoMemory
+-- the status of a run that stopped
+abbrev pub status_of : Stop → Status
+status_of stop.Input = InputFault
+status_of stop.Output = OutputFault
+status_of stop.Disk = DiskFault
+status_of stop.NoMemory = NoMemory
+status_of (stop.Damaged group) = Damaged (Log group)
+status_of stop.TooLong = InputTooLong

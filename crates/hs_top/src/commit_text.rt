@@ -1,7 +1,7 @@
 // The texts of the statement log: what each of its groups holds, written and read.
 ghost use Rattle.std.specs.Prelude.{◌≡◌, ◌++◌, [], codes, OnOk, IfOk, IfSome, if◌then◌else◌};
 ghost use Rattle.std.specs.Option.{option_map};
-ghost use Rattle.hs_top.specs.Lines.{joined};
+ghost use Rattle.hs_machine.specs.Values.{joined};
 ghost use Rattle.hs_top.specs.Spelling.{column_text};
 ghost use Rattle.hs_top.specs.declared.statement.Statement.TheVariants.{Create, Insert};
 ghost use Rattle.hs_top.specs.CommitText.{mark, is_of, change_line, commit_text, mark_of, marked_of, change_of, commit_of, IsChange};

@@ -5,13 +5,14 @@ ghost use Rattle.hs_values.specs.Sorted.{sorted_rows};
 ghost use Rattle.hs_top.specs.Database.{new_database, table_of, is_among, first_repeated, executed};
 ghost use Rattle.hs_top.specs.CommitText.{IsChange};
 ghost use Rattle.hs_top.specs.Machine.{commits_after};
+ghost use Rattle.hs_machine.specs.Replies.{rows_of};
 
 use crate::keyed::{sort_keyed, with_keys, without_keys};
 use crate::names::Names;
-use crate::refusal::Refusal;
-use crate::reply::Reply;
 use crate::statement::Statement;
 use crate::table::{Adding, MOST_TABLES, Table, Tables};
+use hs_base::CommitNo;
+use hs_machine::{Refusal, Reply};
 use hs_values::{Name, Row, RowList, sort_rows};
 use std::alloc::{AllocError, Global};
 
@@ -38,8 +39,9 @@ impl Database {
     pub fn change(&mut self, alloc: Global, statement: Statement) -> Result<Reply, AllocError>
         requires change { IsChange statement }
         requires room { self.old.commits < 2 ^ 63 }
-        ensures done { IfOk result (λ reply. executed self.old statement ≡ record { rows = []; reply = reply; database = self.new }) }
+        ensures done { IfOk result (λ reply. executed self.old statement ≡ record { reply = reply; database = self.new }) }
         ensures counted { IfOk result (λ reply. self.new.commits ≡ commits_after self.old.commits reply) }
+        ensures no_rows { IfOk result (λ reply. rows_of reply ≡ []) }
     {
         match statement {
             Statement::Create { table, columns } => self.create(alloc, table, columns),
@@ -52,7 +54,8 @@ impl Database {
     fn create(&mut self, alloc: Global, name: Name, columns: Names) -> Result<Reply, AllocError>
         requires { self.old.commits < 2 ^ 63 }
         ensures counted { IfOk result (λ reply. self.new.commits ≡ commits_after self.old.commits reply) }
-        ensures done { IfOk result (λ reply. executed self.old (Statement.Create name columns) ≡ record { rows = []; reply = reply; database = self.new }) }
+        ensures no_rows { IfOk result (λ reply. rows_of reply ≡ []) }
+        ensures done { IfOk result (λ reply. executed self.old (Statement.Create name columns) ≡ record { reply = reply; database = self.new }) }
     {
         if self.tables.table(name.as_str()).is_some() {
             return Ok(Reply::Refused(Refusal::Exists(name)));
@@ -76,7 +79,8 @@ impl Database {
     fn insert(&mut self, name: Name, row: Row) -> Result<Reply, AllocError>
         requires { self.old.commits < 2 ^ 63 }
         ensures counted { IfOk result (λ reply. self.new.commits ≡ commits_after self.old.commits reply) }
-        ensures done { IfOk result (λ reply. executed self.old (Statement.Insert name row) ≡ record { rows = []; reply = reply; database = self.new }) }
+        ensures no_rows { IfOk result (λ reply. rows_of reply ≡ []) }
+        ensures done { IfOk result (λ reply. executed self.old (Statement.Insert name row) ≡ record { reply = reply; database = self.new }) }
     {
         match self.tables.add_row(name.as_str(), row)? {
             Adding::Added => Ok(self.commit(Some(1))),
@@ -88,13 +92,14 @@ impl Database {
     // Counts a commit.
     fn commit(&mut self, count: Option<u64>) -> Reply
         requires { self.old.commits < 2 ^ 63 }
-        ensures reply { result ≡ Reply.Done count (Some (self.old.commits + 1)) }
+        ensures reply { result ≡ Reply.Ok None count (Some (record { 0 = self.old.commits + 1 })) }
         ensures counted { self.new ≡ record self.old { commits = self.old.commits + 1 } }
     {
         self.commits += 1;
-        Reply::Done {
+        Reply::Ok {
+            rows: None,
             count,
-            committed: Some(self.commits),
+            committed: Some(CommitNo(self.commits)),
         }
     }
 }

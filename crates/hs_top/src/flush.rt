@@ -1,32 +1,26 @@
 // Hands output over to the host.
-ghost use Rattle.std.specs.Prelude.{◌≡◌, ◌⊎◌, ℕ, ◌≤◌, [], List, ◌++◌, false, OnOk, IfErr, IsErrOf};
-ghost use Rattle.hs_host.specs.Host.{HasCause, Rose};
-ghost use Rattle.hs_host.specs.Moments.{Since, IsPrinted};
+ghost use Rattle.std.specs.Prelude.{◌≡◌, [], ◌++◌, OnOk, IfErr};
+ghost use Rattle.hs_host.specs.Moments.{Since};
+ghost use Rattle.hs_host.specs.Used.{UsesOutput};
+ghost use Rattle.hs_top.specs.Holding.{IsHandedOver};
 ghost use Rattle.hs_top.specs.Machine.{WritesPrefix};
-ghost use Rattle.hs_top.specs.Running.{is_damaged};
+ghost use Rattle.hs_top.specs.Stop.{OutputStops};
 
 use crate::output::Output;
-use crate::status::Status;
-use hs_host::{Host, HostFault};
+use crate::stop::Stop;
+use hs_host::{Host, HostFault, tell};
 
 /// How many bytes of output are gathered before they are handed over.
 const MOST_GATHERED: usize = 65_536;
 
 /// Hands over all that is gathered.
-pub fn flush<H: Host>(output: &mut Output, host: &mut H) -> Result<(), Status>
+pub fn flush<H: Host>(output: &mut Output, host: &mut H) -> Result<(), Stop>
     ensures empty { OnOk result (output.new ≡ []) }
     ensures done { H.tells → OnOk result (H.written host.new ≡ H.written host.old ++ output.old) }
     ensures front { H.tells → WritesPrefix (H.written host.old) (H.written host.new) output.old }
-    ensures moments { H.tells → Since (IsPrinted (H.history host.old).now output.old) (H.history host.old) (H.history host.new) }
-    ensures output_fault { IsErrOf result Status.OutputFault → Rose (H.output_faults host.old) (H.output_faults host.new) }
-    ensures only { IsErrOf result Status.Done ⊎ (IsErrOf result Status.Usage ⊎ (IsErrOf result Status.InputFault ⊎ (IsErrOf result Status.DiskFault ⊎ IsErrOf result Status.InputTooLong))) → ⊥ }
-    ensures whole { IfErr result (λ status. is_damaged status ≡ false) }
-    ensures output_later { H.output_faults host.old ≤ H.output_faults host.new }
-    ensures unread { H.unread host.new ≡ H.unread host.old }
-    ensures input_faults { H.input_faults host.new ≡ H.input_faults host.old }
-    ensures files { H.files host.new ≡ H.files host.old }
-    ensures standing { H.standing host.new ≡ H.standing host.old }
-    ensures disk_faults { H.disk_faults host.new ≡ H.disk_faults host.old }
+    ensures moments { H.tells → Since (IsHandedOver (H.history host.old).now output.old) (H.history host.old) (H.history host.new) }
+    ensures uses { UsesOutput H.Source H.Host.own host.old host.new }
+    ensures stops { IfErr result (OutputStops H.Source H.Host.own host.old host.new) }
 {
     write_all(host, output.as_bytes())?;
     output.clear();
@@ -35,19 +29,12 @@ pub fn flush<H: Host>(output: &mut Output, host: &mut H) -> Result<(), Status>
 
 /// Hands over what is gathered, where it is 64 KiB or more.
 #[tactic(auto, using(crate::proofs::Prefixes::nothing_yet, hs_host::proofs::Passing::since_none))]
-pub fn flush_when_large<H: Host>(output: &mut Output, host: &mut H) -> Result<(), Status>
+pub fn flush_when_large<H: Host>(output: &mut Output, host: &mut H) -> Result<(), Stop>
     ensures done { H.tells → OnOk result (H.written host.new ++ output.new ≡ H.written host.old ++ output.old) }
     ensures front { H.tells → WritesPrefix (H.written host.old) (H.written host.new) output.old }
-    ensures moments { H.tells → Since (IsPrinted (H.history host.old).now output.old) (H.history host.old) (H.history host.new) }
-    ensures output_fault { IsErrOf result Status.OutputFault → Rose (H.output_faults host.old) (H.output_faults host.new) }
-    ensures only { IsErrOf result Status.Done ⊎ (IsErrOf result Status.Usage ⊎ (IsErrOf result Status.InputFault ⊎ (IsErrOf result Status.DiskFault ⊎ IsErrOf result Status.InputTooLong))) → ⊥ }
-    ensures whole { IfErr result (λ status. is_damaged status ≡ false) }
-    ensures output_later { H.output_faults host.old ≤ H.output_faults host.new }
-    ensures unread { H.unread host.new ≡ H.unread host.old }
-    ensures input_faults { H.input_faults host.new ≡ H.input_faults host.old }
-    ensures files { H.files host.new ≡ H.files host.old }
-    ensures standing { H.standing host.new ≡ H.standing host.old }
-    ensures disk_faults { H.disk_faults host.new ≡ H.disk_faults host.old }
+    ensures moments { H.tells → Since (IsHandedOver (H.history host.old).now output.old) (H.history host.old) (H.history host.new) }
+    ensures uses { UsesOutput H.Source H.Host.own host.old host.new }
+    ensures stops { IfErr result (OutputStops H.Source H.Host.own host.old host.new) }
 {
     if output.len() < MOST_GATHERED {
         return Ok(());
@@ -56,29 +43,22 @@ pub fn flush_when_large<H: Host>(output: &mut Output, host: &mut H) -> Result<()
 }
 
 // Writes all the bytes.
-fn write_all<H: Host>(host: &mut H, bytes: &[u8]) -> Result<(), Status>
+fn write_all<H: Host>(host: &mut H, bytes: &[u8]) -> Result<(), Stop>
     ensures done { H.tells → OnOk result (H.written host.new ≡ H.written host.old ++ bytes.now) }
     ensures front { H.tells → WritesPrefix (H.written host.old) (H.written host.new) bytes.now }
-    ensures moments { H.tells → Since (IsPrinted (H.history host.old).now bytes.now) (H.history host.old) (H.history host.new) }
-    ensures output_fault { IsErrOf result Status.OutputFault → Rose (H.output_faults host.old) (H.output_faults host.new) }
-    ensures only { IsErrOf result Status.Done ⊎ (IsErrOf result Status.Usage ⊎ (IsErrOf result Status.InputFault ⊎ (IsErrOf result Status.DiskFault ⊎ IsErrOf result Status.InputTooLong))) → ⊥ }
-    ensures whole { IfErr result (λ status. is_damaged status ≡ false) }
-    ensures output_later { H.output_faults host.old ≤ H.output_faults host.new }
-    ensures unread { H.unread host.new ≡ H.unread host.old }
-    ensures input_faults { H.input_faults host.new ≡ H.input_faults host.old }
-    ensures files { H.files host.new ≡ H.files host.old }
-    ensures standing { H.standing host.new ≡ H.standing host.old }
-    ensures disk_faults { H.disk_faults host.new ≡ H.disk_faults host.old }
+    ensures moments { H.tells → Since (IsHandedOver (H.history host.old).now bytes.now) (H.history host.old) (H.history host.new) }
+    ensures uses { UsesOutput H.Source H.Host.own host.old host.new }
+    ensures stops { IfErr result (OutputStops H.Source H.Host.own host.old host.new) }
 {
     let mut rest = bytes;
     while !rest.is_empty() {
-        let count = match host.write_output(rest) {
+        let count = match tell(host, rest) {
             Ok(count) => count,
-            Err(HostFault::Fault) => return Err(Status::OutputFault),
-            Err(HostFault::NoMemory) => return Err(Status::NoMemory),
+            Err(HostFault::Fault) => return Err(Stop::Output),
+            Err(HostFault::NoMemory) => return Err(Stop::NoMemory),
         };
         if count == 0 {
-            return Err(Status::OutputFault);
+            return Err(Stop::Output);
         }
         rest = &rest[count..];
     }

@@ -10,32 +10,29 @@ ghost use Rattle.hs_top.specs.Damaged.{HasFirstEpoch, IsFirstDamage};
 ghost use Rattle.hs_top.specs.Database.{executed, first_repeated, is_among, named_by, table_of, Repeats};
 ghost use Rattle.hs_entries.specs.declared.item.Item.{Item};
 ghost use Rattle.hs_entries.specs.Items.{items};
-ghost use Rattle.hs_top.specs.Acknowledged.{Each, IsNamed};
-ghost use Rattle.hs_top.specs.Machine.{Machine, State, IsOver, turn, steps, step_of, turns_left, is_commit};
-ghost use Rattle.hs_top.specs.Replies.{HasOneReply, IsRow, IsReply, number_of, session_of};
+ghost use Rattle.hs_machine.specs.Machine.{IsLawful as IsLawfulMachine, IsTelling};
+ghost use Rattle.hs_machine.specs.Replies.{HasOneReply, is_commit};
+ghost use Rattle.hs_top.specs.Acknowledged.{are_named, has_names, number_of, session_of};
+ghost use Rattle.hs_top.specs.Machine.{State, step_of, one_by_one};
 ghost use Rattle.hs_top.specs.Opening.{Opened, opened_of, replayed, texts_at, texts_from, ended_with, IsWholeLog};
 ghost use Rattle.hs_top.specs.Statement.{statement_of};
 ghost use Rattle.hs_top.specs.Spelling.{IsSpellable, spelled};
 ghost use Rattle.hs_top.specs.CommitText.{commit_text, commit_of, IsSession, IsLawful};
 
-/// Every run comes to its end: after the turns that a machine has left, none is left.
-pub fn runs_end()
-    ensures { (m : Machine) → IsOver (steps (turns_left m) m) }
+/// The program is a machine that takes turns: each turn takes an item, so that every run comes to its end; it counts the
+/// commits that it logs; and it tells of none that it didn't make. A name of a session in the items of an input has no line
+/// feed, so that each line ends with the only one in it.
+pub fn the_program_takes_turns()
+    ensures lawful { IsLawfulMachine one_by_one }
+    ensures telling { IsTelling one_by_one has_names }
+    ensures named { (input : List ℕ) → are_named (items 1 input) ≡ true }
 {}
 
-/// A machine that has come to its end stays as it is and writes nothing.
-pub fn turns_change_nothing_at_the_end()
-    ensures { (m : Machine) → IsOver m → turn m ≡ record { lines = []; texts = []; next = m } }
-{}
-
-/// Each item has one line with a reply, which begins with `ok` or `refused` behind its number and the name of its session, or
-/// `-`. Before that line it has only lines with rows. The end has no line. A name of a session in the items of an input has no
-/// line feed, so that each of these lines ends with the only one in it. No line is both a row and a reply.
+/// Each item has one line with a reply, with its number and the name of its session, or `-`. Before that line it has only
+/// lines with rows. The end has no line.
 pub fn each_item_has_one_reply()
-    ensures lines { (item : Item) (s : State) → (item ≡ Item.End → ⊥) → IsNamed item → HasOneReply (number_of item) (session_of item) (step_of item s).lines }
+    ensures lines { (item : Item) (s : State) → (item ≡ Item.End → ⊥) → HasOneReply (number_of item) (session_of item) (step_of item s).lines }
     ensures end { (s : State) → (step_of Item.End s).lines ≡ [] }
-    ensures named { (input : List ℕ) → Each IsNamed (items 1 input) }
-    ensures apart { (number : ℕ) (session line : List ℕ) → IsRow number session line → IsReply number session line → ⊥ }
 {}
 
 /// What a statement changes: nothing where it doesn't commit, and the count of commits by one where it does. Of the tables it changes

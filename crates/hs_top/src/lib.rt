@@ -13,14 +13,13 @@ mod laws;
 mod names;
 mod opening;
 mod output;
-mod refusal;
-mod reply;
 mod run_over;
 mod running;
 mod sessions;
 mod statement;
 mod statement_log;
 mod status;
+mod stop;
 mod table;
 mod values;
 mod work;
@@ -28,9 +27,9 @@ mod work;
 pub use damage::Damage;
 pub use laws::{
     a_log_gives_what_the_runs_made, commits_are_spelled, damage_is_that_of_the_first_group,
-    each_item_has_one_reply, runs_end, spelled_commits_are_read, spelled_statements_are_read,
+    each_item_has_one_reply, spelled_commits_are_read, spelled_statements_are_read,
     statements_are_spelled, statements_change_their_own_table, the_first_repeated_name_is_found,
-    turns_change_nothing_at_the_end,
+    the_program_takes_turns,
 };
 pub use run_over::run;
 pub use status::Status;

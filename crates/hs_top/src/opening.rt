@@ -1,22 +1,22 @@
 // What a run begins with: the database that its log gives.
-ghost use Rattle.std.specs.Prelude.{◌≡◌, ◌⊎◌, ℕ, ◌+◌, ◌*◌, ◌^◌, ◌<◌, ◌≤◌, List, [], true, false, None, Some, Ok, Err, IfOk, IfSome, OnOk, OnErr, IfErr, IsErrOf, if◌then◌else◌};
-ghost use Rattle.hs_host.specs.Host.{Rose};
-ghost use Rattle.hs_gate.specs.Crash.{IsAny, IsCalm};
+ghost use Rattle.std.specs.Prelude.{◌≡◌, ℕ, ◌+◌, ◌^◌, ◌<◌, ◌≤◌, [], true, false, None, Some, Ok, Err, IfOk, IfSome, OnOk, OnErr, IfErr, IsErrOf, if◌then◌else◌};
 ghost use Rattle.hs_host.specs.Disk.{settled};
-ghost use Rattle.hs_host.specs.Files.{of, IsOpen, IsHonest};
-ghost use Rattle.hs_host.specs.Moments.{Since, OneFile, IsStill, disk_of};
-ghost use Rattle.hs_top.specs.Crash.{IsOpening, IsLogAlone};
+ghost use Rattle.hs_host.specs.Files.{of, IsOpen};
+ghost use Rattle.hs_host.specs.Moments.{Since, disk_of};
+ghost use Rattle.hs_host.specs.Used.{Told, ReadsFiles, ChangesFile, Moves};
+ghost use Rattle.hs_gate.specs.Crash.{IsAny};
 ghost use Rattle.hs_gate.specs.Gated.{IsFront, IsPlace, TakesPart, IsUnbornOrCreated};
 ghost use Rattle.hs_gate.specs.Groups.{is_born};
-ghost use Rattle.hs_top.specs.CommitText.{IsChange};
-ghost use Rattle.hs_top.specs.Opening.{nothing_logged, redone, replayed, opened_of, texts_at, opened_by, IsDamageOf};
-ghost use Rattle.hs_top.specs.Running.{IsLog, IsSound, HasRoom, OnlyLog, texts_in, is_damaged};
+ghost use Rattle.hs_log.specs.Log.{HasRoom};
+ghost use Rattle.hs_top.specs.Crash.{IsOpening, IsLogAlone};
+ghost use Rattle.hs_top.specs.Opening.{nothing_logged, redone, replayed, opened_of, texts_at, opened_by};
+ghost use Rattle.hs_top.specs.Running.{Stands, texts_in};
+ghost use Rattle.hs_top.specs.Stop.{OpenStops, DiskStops};
 
 use crate::commit_text::read_commit;
-use crate::damage::Damage;
 use crate::database::Database;
 use crate::statement_log::StatementLog;
-use crate::status::Status;
+use crate::stop::Stop;
 use hs_gate::{GateFault, Gated, Part};
 use hs_host::{FileKind, Host};
 use std::alloc::{AllocError, Global};
@@ -32,30 +32,18 @@ pub struct Opening {
 }
 
 /// Opens the log: an unborn one is made anew, and the commits of a born one are made again.
-pub fn open_log<H: Host>(alloc: Global, host: &mut H) -> Result<Opening, Status>
+pub fn open_log<H: Host>(alloc: Global, host: &mut H) -> Result<Opening, Stop>
     requires { IsOpen (H.standing host.old) }
-    ensures opened { H.tells → IsHonest (H.standing host.old) → IfOk result (λ o. opened_of (H.files host.old).log ≡ Ok (opened_by o)) }
-    ensures damaged { H.tells → IsHonest (H.standing host.old) → (damage : Damage) → IsErrOf result (Status.Damaged damage) → IsDamageOf (opened_of (H.files host.old).log) damage }
-    ensures untouched { H.tells → IsHonest (H.standing host.old) → IfErr result (λ status. is_damaged status ≡ true → H.files host.new ≡ H.files host.old) }
-    ensures kept { H.tells → IsHonest (H.standing host.old) → (number : ℕ) → opened_of (H.files host.old).log ≡ Err number → H.files host.new ≡ H.files host.old }
-    ensures logged { H.tells → IsHonest (H.standing host.old) → IfOk result (λ o. IsLog (H.files host.new) o.log) }
-    ensures texts { H.tells → IsHonest (H.standing host.old) → OnOk result (texts_in (H.files host.new) ≡ texts_at (H.files host.old).log) }
-    ensures others { H.tells → IsHonest (H.standing host.old) → OnlyLog (H.files host.old) (H.files host.new) }
-    ensures begun { H.tells → IsHonest (H.standing host.old) → is_born (H.files host.old).log ≡ false → OnErr result (IsUnbornOrCreated (H.files host.new).log) }
-    ensures sound { IfOk result (λ o. IsSound o.log) }
-    ensures room { IfOk result (λ o. HasRoom o.database.commits o.log) }
-    ensures moments { H.tells → IsHonest (H.standing host.old) → disk_of (H.history host.old).now FileKind.Log ≡ settled (H.files host.old).log → Since (IsOpening (H.files host.old).log (H.history host.old).now.out) (H.history host.old) (H.history host.new) }
-    ensures alone { H.tells → IsHonest (H.standing host.old) → disk_of (H.history host.old).now FileKind.Log ≡ settled (H.files host.old).log → Since (IsLogAlone (H.history host.old).now) (H.history host.old) (H.history host.new) }
-    ensures calm { H.tells → IsHonest (H.standing host.old) → IfOk result (λ o. IsCalm (H.history host.new) (H.files host.new) o.log.gated) }
-    ensures disk_fault { IsErrOf result Status.DiskFault → Rose (H.disk_faults host.old) (H.disk_faults host.new) }
-    ensures only { IsErrOf result Status.Done ⊎ (IsErrOf result Status.Usage ⊎ (IsErrOf result Status.InputFault ⊎ (IsErrOf result Status.OutputFault ⊎ IsErrOf result Status.InputTooLong))) → ⊥ }
-    ensures own { IsErrOf result (Status.Damaged Damage.Foreign) → ⊥ }
-    ensures disk_later { H.disk_faults host.old ≤ H.disk_faults host.new }
-    ensures standing { H.standing host.new ≡ H.standing host.old }
-    ensures unread { H.unread host.new ≡ H.unread host.old }
-    ensures input_faults { H.input_faults host.new ≡ H.input_faults host.old }
-    ensures written { H.written host.new ≡ H.written host.old }
-    ensures output_faults { H.output_faults host.new ≡ H.output_faults host.old }
+    ensures opened { Told H.Source H.Host.own host.old → IfOk result (λ o. opened_of (H.files host.old).log ≡ Ok (opened_by o)) }
+    ensures damaged { Told H.Source H.Host.own host.old → (number : ℕ) → IsErrOf result (Stop.Damaged number) → opened_of (H.files host.old).log ≡ Err number }
+    ensures untouched { Told H.Source H.Host.own host.old → (number : ℕ) → IsErrOf result (Stop.Damaged number) → H.files host.new ≡ H.files host.old }
+    ensures kept { Told H.Source H.Host.own host.old → (number : ℕ) → opened_of (H.files host.old).log ≡ Err number → H.files host.new ≡ H.files host.old }
+    ensures stands { IfOk result (λ o. Stands H.Source H.Host.own o.log o.database.commits host.new) }
+    ensures texts { Told H.Source H.Host.own host.old → OnOk result (texts_in (H.files host.new) ≡ texts_at (H.files host.old).log) }
+    ensures moments { Told H.Source H.Host.own host.old → disk_of (H.history host.old).now FileKind.Log ≡ settled (H.files host.old).log → Since (IsOpening (H.files host.old).log (H.history host.old).now.out) (H.history host.old) (H.history host.new) }
+    ensures moves { Moves H.Source H.Host.own FileKind.Log (IsLogAlone (H.history host.old).now) host.old host.new }
+    ensures stops { IfErr result (OpenStops H.Source H.Host.own host.old host.new) }
+    ensures begun { Told H.Source H.Host.own host.old → is_born (H.files host.old).log ≡ false → OnErr result (IsUnbornOrCreated (H.files host.new).log) }
 {
     if Gated::is_born(host, FileKind::Log)? {
         read_log(alloc, host)
@@ -65,27 +53,14 @@ pub fn open_log<H: Host>(alloc: Global, host: &mut H) -> Result<Opening, Status>
 }
 
 // A log without commits.
-fn new_log<H: Host>(alloc: Global, host: &mut H) -> Result<Opening, Status>
+fn new_log<H: Host>(alloc: Global, host: &mut H) -> Result<Opening, Stop>
     requires { IsOpen (H.standing host.old) }
     ensures opened { IfOk result (λ o. opened_by o ≡ nothing_logged) }
-    ensures logged { H.tells → IsHonest (H.standing host.old) → IfOk result (λ o. IsLog (H.files host.new) o.log) }
-    ensures texts { H.tells → IsHonest (H.standing host.old) → OnOk result (texts_in (H.files host.new) ≡ []) }
-    ensures others { H.tells → IsHonest (H.standing host.old) → OnlyLog (H.files host.old) (H.files host.new) }
-    ensures sound { IfOk result (λ o. IsSound o.log) }
-    ensures room { IfOk result (λ o. HasRoom o.database.commits o.log) }
-    ensures whole { IfErr result (λ status. is_damaged status ≡ false) }
-    ensures begun { H.tells → IsHonest (H.standing host.old) → is_born (H.files host.old).log ≡ false → OnErr result (IsUnbornOrCreated (H.files host.new).log) }
-    ensures moments { H.tells → IsHonest (H.standing host.old) → Since (OneFile (H.history host.old).now FileKind.Log IsAny) (H.history host.old) (H.history host.new) }
-    ensures calm { H.tells → IsHonest (H.standing host.old) → IfOk result (λ o. IsCalm (H.history host.new) (H.files host.new) o.log.gated) }
-    ensures disk_fault { IsErrOf result Status.DiskFault → Rose (H.disk_faults host.old) (H.disk_faults host.new) }
-    ensures only { IsErrOf result Status.Done ⊎ (IsErrOf result Status.Usage ⊎ (IsErrOf result Status.InputFault ⊎ (IsErrOf result Status.OutputFault ⊎ IsErrOf result Status.InputTooLong))) → ⊥ }
-    ensures own { IsErrOf result (Status.Damaged Damage.Foreign) → ⊥ }
-    ensures disk_later { H.disk_faults host.old ≤ H.disk_faults host.new }
-    ensures standing { H.standing host.new ≡ H.standing host.old }
-    ensures unread { H.unread host.new ≡ H.unread host.old }
-    ensures input_faults { H.input_faults host.new ≡ H.input_faults host.old }
-    ensures written { H.written host.new ≡ H.written host.old }
-    ensures output_faults { H.output_faults host.new ≡ H.output_faults host.old }
+    ensures stands { IfOk result (λ o. Stands H.Source H.Host.own o.log o.database.commits host.new) }
+    ensures texts { Told H.Source H.Host.own host.old → OnOk result (texts_in (H.files host.new) ≡ []) }
+    ensures begun { Told H.Source H.Host.own host.old → is_born (H.files host.old).log ≡ false → OnErr result (IsUnbornOrCreated (H.files host.new).log) }
+    ensures changes { ChangesFile H.Source H.Host.own FileKind.Log IsAny host.old host.new }
+    ensures stops { IfErr result (DiskStops H.Source H.Host.own host.old host.new) }
 {
     let gated = Gated::create(host, FileKind::Log)?;
     Ok(Opening {
@@ -95,69 +70,48 @@ fn new_log<H: Host>(alloc: Global, host: &mut H) -> Result<Opening, Status>
 }
 
 // The commits of a born log, made again.
-fn read_log<H: Host>(alloc: Global, host: &mut H) -> Result<Opening, Status>
+fn read_log<H: Host>(alloc: Global, host: &mut H) -> Result<Opening, Stop>
     requires opened { IsOpen (H.standing host.old) }
-    requires born { H.tells → IsHonest (H.standing host.old) → is_born (H.files host.old).log ≡ true }
-    ensures opened { H.tells → IsHonest (H.standing host.old) → IfOk result (λ o. opened_of (H.files host.old).log ≡ Ok (opened_by o)) }
-    ensures damaged { H.tells → IsHonest (H.standing host.old) → (damage : Damage) → IsErrOf result (Status.Damaged damage) → IsDamageOf (opened_of (H.files host.old).log) damage }
-    ensures untouched { H.tells → IsHonest (H.standing host.old) → IfErr result (λ status. is_damaged status ≡ true → H.files host.new ≡ H.files host.old) }
-    ensures kept { H.tells → IsHonest (H.standing host.old) → (number : ℕ) → opened_of (H.files host.old).log ≡ Err number → H.files host.new ≡ H.files host.old }
-    ensures logged { H.tells → IsHonest (H.standing host.old) → IfOk result (λ o. IsLog (H.files host.new) o.log) }
-    ensures texts { H.tells → IsHonest (H.standing host.old) → OnOk result (texts_in (H.files host.new) ≡ texts_at (H.files host.old).log) }
-    ensures others { H.tells → IsHonest (H.standing host.old) → OnlyLog (H.files host.old) (H.files host.new) }
-    ensures sound { IfOk result (λ o. IsSound o.log) }
-    ensures room { IfOk result (λ o. HasRoom o.database.commits o.log) }
-    ensures moments { H.tells → IsHonest (H.standing host.old) → disk_of (H.history host.old).now FileKind.Log ≡ settled (H.files host.old).log → Since (IsOpening (H.files host.old).log (H.history host.old).now.out) (H.history host.old) (H.history host.new) }
-    ensures alone { H.tells → IsHonest (H.standing host.old) → disk_of (H.history host.old).now FileKind.Log ≡ settled (H.files host.old).log → Since (IsLogAlone (H.history host.old).now) (H.history host.old) (H.history host.new) }
-    ensures calm { H.tells → IsHonest (H.standing host.old) → IfOk result (λ o. IsCalm (H.history host.new) (H.files host.new) o.log.gated) }
-    ensures disk_fault { IsErrOf result Status.DiskFault → Rose (H.disk_faults host.old) (H.disk_faults host.new) }
-    ensures only { IsErrOf result Status.Done ⊎ (IsErrOf result Status.Usage ⊎ (IsErrOf result Status.InputFault ⊎ (IsErrOf result Status.OutputFault ⊎ IsErrOf result Status.InputTooLong))) → ⊥ }
-    ensures own { IsErrOf result (Status.Damaged Damage.Foreign) → ⊥ }
-    ensures disk_later { H.disk_faults host.old ≤ H.disk_faults host.new }
-    ensures standing { H.standing host.new ≡ H.standing host.old }
-    ensures unread { H.unread host.new ≡ H.unread host.old }
-    ensures input_faults { H.input_faults host.new ≡ H.input_faults host.old }
-    ensures written { H.written host.new ≡ H.written host.old }
-    ensures output_faults { H.output_faults host.new ≡ H.output_faults host.old }
+    requires born { Told H.Source H.Host.own host.old → is_born (H.files host.old).log ≡ true }
+    ensures opened { Told H.Source H.Host.own host.old → IfOk result (λ o. opened_of (H.files host.old).log ≡ Ok (opened_by o)) }
+    ensures damaged { Told H.Source H.Host.own host.old → (number : ℕ) → IsErrOf result (Stop.Damaged number) → opened_of (H.files host.old).log ≡ Err number }
+    ensures untouched { Told H.Source H.Host.own host.old → (number : ℕ) → IsErrOf result (Stop.Damaged number) → H.files host.new ≡ H.files host.old }
+    ensures kept { Told H.Source H.Host.own host.old → (number : ℕ) → opened_of (H.files host.old).log ≡ Err number → H.files host.new ≡ H.files host.old }
+    ensures stands { IfOk result (λ o. Stands H.Source H.Host.own o.log o.database.commits host.new) }
+    ensures texts { Told H.Source H.Host.own host.old → OnOk result (texts_in (H.files host.new) ≡ texts_at (H.files host.old).log) }
+    ensures moments { Told H.Source H.Host.own host.old → disk_of (H.history host.old).now FileKind.Log ≡ settled (H.files host.old).log → Since (IsOpening (H.files host.old).log (H.history host.old).now.out) (H.history host.old) (H.history host.new) }
+    ensures moves { Moves H.Source H.Host.own FileKind.Log (IsLogAlone (H.history host.old).now) host.old host.new }
+    ensures stops { IfErr result (OpenStops H.Source H.Host.own host.old host.new) }
 {
     let Some(front) = Gated::front(alloc, host, FileKind::Log)? else {
-        return Err(Status::Damaged(Damage::Log(0)));
+        return Err(Stop::Damaged(0));
     };
     if front.gated.epoch != 1 {
-        return Err(Status::Damaged(Damage::Log(0)));
+        return Err(Stop::Damaged(0));
     }
     let opening = match replay(alloc, host, front.gated) {
         Ok(opening) => opening,
-        Err(status) => return Err(status),
+        Err(stop) => return Err(stop),
     };
     if front.is_broken {
-        return Err(Status::Damaged(Damage::Log(front.gated.groups + 1)));
+        return Err(Stop::Damaged(front.gated.groups + 1));
     }
     front.gated.settle(host)?;
     Ok(opening)
 }
 
 // The commits of a log, made one after another.
-fn replay<H: Host>(alloc: Global, host: &mut H, gated: Gated) -> Result<Opening, Status>
+fn replay<H: Host>(alloc: Global, host: &mut H, gated: Gated) -> Result<Opening, Stop>
     requires opened { IsOpen (H.standing host.old) }
     requires log { gated.file ≡ FileKind.Log }
     requires room { 10 ≤ gated.end }
-    requires front { H.tells → IsHonest (H.standing host.old) → IsFront (H.files host.old) gated }
-    ensures opened { H.tells → IsHonest (H.standing host.old) → IfOk result (λ o. replayed nothing_logged (texts_in (H.files host.old)) ≡ Ok (opened_by o)) }
-    ensures damaged { H.tells → IsHonest (H.standing host.old) → (damage : Damage) → IsErrOf result (Status.Damaged damage) → IsDamageOf (replayed nothing_logged (texts_in (H.files host.old))) damage }
+    requires front { Told H.Source H.Host.own host.old → IsFront (H.files host.old) gated }
+    ensures opened { Told H.Source H.Host.own host.old → IfOk result (λ o. replayed nothing_logged (texts_in (H.files host.old)) ≡ Ok (opened_by o)) }
+    ensures damaged { Told H.Source H.Host.own host.old → (number : ℕ) → IsErrOf result (Stop.Damaged number) → replayed nothing_logged (texts_in (H.files host.old)) ≡ Err number }
     ensures gated { IfOk result (λ o. o.log.gated ≡ gated) }
-    ensures room { IfOk result (λ o. HasRoom o.database.commits o.log) }
-    ensures files { H.tells → IsHonest (H.standing host.old) → H.files host.new ≡ H.files host.old }
-    ensures moments { H.tells → IsHonest (H.standing host.old) → Since (IsStill (H.history host.old).now) (H.history host.old) (H.history host.new) }
-    ensures disk_fault { IsErrOf result Status.DiskFault → Rose (H.disk_faults host.old) (H.disk_faults host.new) }
-    ensures only { IsErrOf result Status.Done ⊎ (IsErrOf result Status.Usage ⊎ (IsErrOf result Status.InputFault ⊎ (IsErrOf result Status.OutputFault ⊎ IsErrOf result Status.InputTooLong))) → ⊥ }
-    ensures own { IsErrOf result (Status.Damaged Damage.Foreign) → ⊥ }
-    ensures disk_later { H.disk_faults host.old ≤ H.disk_faults host.new }
-    ensures standing { H.standing host.new ≡ H.standing host.old }
-    ensures unread { H.unread host.new ≡ H.unread host.old }
-    ensures input_faults { H.input_faults host.new ≡ H.input_faults host.old }
-    ensures written { H.written host.new ≡ H.written host.old }
-    ensures output_faults { H.output_faults host.new ≡ H.output_faults host.old }
+    ensures room { IfOk result (λ o. HasRoom o.database.commits o.log.gated) }
+    ensures reads { ReadsFiles H.Source H.Host.own host.old host.new }
+    ensures stops { IfErr result (OpenStops H.Source H.Host.own host.old host.new) }
 {
     let mut opening = Opening {
         database: Database::new(alloc),
@@ -166,7 +120,7 @@ fn replay<H: Host>(alloc: Global, host: &mut H, gated: Gated) -> Result<Opening,
     let mut at = FIRST_PLACE;
     while let Some(part) = next_part(alloc, host, &opening, at)? {
         if !opening.redo(alloc, part.payload.as_slice())? {
-            return Err(Status::Damaged(Damage::Log(opening.database.commits + 1)));
+            return Err(Stop::Damaged(opening.database.commits + 1));
         }
         at = part.next;
     }
@@ -179,34 +133,23 @@ fn next_part<H: Host>(
     host: &mut H,
     opening: &Opening,
     at: u64,
-) -> Result<Option<Part>, Status>
+) -> Result<Option<Part>, Stop>
     requires opened { IsOpen (H.standing host.old) }
     requires few { opening.now.database.commits < 2 ^ 63 }
     requires within { at ≤ opening.now.log.gated.end }
-    requires front { H.tells → IsHonest (H.standing host.old) → IsFront (H.files host.old) opening.now.log.gated }
-    requires place { H.tells → IsHonest (H.standing host.old) → IsPlace (of (H.files host.old) opening.now.log.gated.file) at }
-    ensures payload { H.tells → IsHonest (H.standing host.old) → IfOk result (TakesPart (of (H.files host.old) opening.now.log.gated.file) at) }
+    requires front { Told H.Source H.Host.own host.old → IsFront (H.files host.old) opening.now.log.gated }
+    requires place { Told H.Source H.Host.own host.old → IsPlace (of (H.files host.old) opening.now.log.gated.file) at }
+    ensures payload { Told H.Source H.Host.own host.old → IfOk result (TakesPart (of (H.files host.old) opening.now.log.gated.file) at) }
     ensures next { IfOk result (λ part. IfSome part (λ p. (at + 9 ≤ p.next) × (p.next ≤ opening.now.log.gated.end))) }
-    ensures whole { H.tells → IsHonest (H.standing host.old) → IfErr result (λ status. is_damaged status ≡ false) }
-    ensures files { H.tells → IsHonest (H.standing host.old) → H.files host.new ≡ H.files host.old }
-    ensures moments { H.tells → IsHonest (H.standing host.old) → Since (IsStill (H.history host.old).now) (H.history host.old) (H.history host.new) }
-    ensures disk_fault { IsErrOf result Status.DiskFault → Rose (H.disk_faults host.old) (H.disk_faults host.new) }
-    ensures only { IsErrOf result Status.Done ⊎ (IsErrOf result Status.Usage ⊎ (IsErrOf result Status.InputFault ⊎ (IsErrOf result Status.OutputFault ⊎ IsErrOf result Status.InputTooLong))) → ⊥ }
-    ensures own { IsErrOf result (Status.Damaged Damage.Foreign) → ⊥ }
-    ensures disk_later { H.disk_faults host.old ≤ H.disk_faults host.new }
-    ensures standing { H.standing host.new ≡ H.standing host.old }
-    ensures unread { H.unread host.new ≡ H.unread host.old }
-    ensures input_faults { H.input_faults host.new ≡ H.input_faults host.old }
-    ensures written { H.written host.new ≡ H.written host.old }
-    ensures output_faults { H.output_faults host.new ≡ H.output_faults host.old }
+    ensures whole { Told H.Source H.Host.own host.old → (number : ℕ) → IsErrOf result (Stop.Damaged number) → ⊥ }
+    ensures reads { ReadsFiles H.Source H.Host.own host.old host.new }
+    ensures stops { IfErr result (OpenStops H.Source H.Host.own host.old host.new) }
 {
     match opening.log.gated.part(alloc, host, at) {
         Ok(part) => Ok(part),
-        Err(GateFault::Broken(_)) => Err(Status::Damaged(Damage::Log(
-            opening.database.commits + 1,
-        ))),
-        Err(GateFault::Disk) => Err(Status::DiskFault),
-        Err(GateFault::NoMemory) => Err(Status::NoMemory),
+        Err(GateFault::Broken(_)) => Err(Stop::Damaged(opening.database.commits + 1)),
+        Err(GateFault::Disk) => Err(Stop::Disk),
+        Err(GateFault::NoMemory) => Err(Stop::NoMemory),
     }
 }
 

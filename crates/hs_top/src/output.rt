@@ -1,12 +1,13 @@
 // The output that is gathered, line by line.
 ghost use Rattle.std.specs.Prelude.{◌≡◌, ◌++◌, [], length, codes, OnOk};
 ghost use Rattle.std.specs.Fmt.{decimal};
-ghost use Rattle.hs_top.specs.Lines.{line, row_text, count_text, committed_text, text_or_nothing, refusal_text, reply_line, opened_line, closed_line};
+ghost use Rattle.hs_machine.specs.Lines.{OpenedAt, ClosedAt, RowOf, OkOf, RefusedOf, printed_line, count_text, committed_text, text_or_nothing, refusal_text};
+ghost use Rattle.hs_machine.specs.Replies.{final_line, number_of};
 
 use crate::integer::push_number;
-use crate::refusal::Refusal;
-use crate::reply::Reply;
 use crate::values::push_values;
+use hs_base::CommitNo;
+use hs_machine::{Refusal, Reply};
 use hs_values::Value;
 use std::alloc::{AllocError, Global};
 use std::marker::Model;
@@ -62,7 +63,7 @@ impl Output {
 
     /// The first line of a run over a database with so many commits.
     pub fn push_opened(&mut self, commits: u64) -> Result<(), AllocError>
-        ensures { OnOk result (self.new ≡ self.old ++ opened_line commits) }
+        ensures { OnOk result (self.new ≡ self.old ++ printed_line (OpenedAt commits)) }
     {
         self.push(b"opened at ")?;
         push_number(&mut self.text, commits, b'\n')
@@ -70,7 +71,7 @@ impl Output {
 
     /// The last line of a run.
     pub fn push_closed(&mut self, commits: u64) -> Result<(), AllocError>
-        ensures { OnOk result (self.new ≡ self.old ++ closed_line commits) }
+        ensures { OnOk result (self.new ≡ self.old ++ printed_line (ClosedAt commits)) }
     {
         self.push(b"closed at ")?;
         push_number(&mut self.text, commits, b'\n')
@@ -78,7 +79,7 @@ impl Output {
 
     /// The line of one row of the answer to item `number` of a session.
     pub fn push_row(&mut self, number: u64, session: &str, row: &[Value]) -> Result<(), AllocError>
-        ensures { OnOk result (self.new ≡ self.old ++ line number session.now (codes "row " ++ row_text row.now)) }
+        ensures { OnOk result (self.new ≡ self.old ++ printed_line (RowOf number session.now row.now)) }
     {
         self.push_item(number, session)?;
         self.push(b": row ")?;
@@ -93,12 +94,14 @@ impl Output {
         session: &str,
         reply: &Reply,
     ) -> Result<(), AllocError>
-        ensures { OnOk result (self.new ≡ self.old ++ reply_line number session.now reply.now) }
+        ensures { OnOk result (self.new ≡ self.old ++ printed_line (final_line number session.now reply.now)) }
     {
         match reply {
-            Reply::Done { count, committed } => {
-                self.push_done(number, session, *count, *committed)
-            }
+            Reply::Ok {
+                count,
+                committed,
+                ..
+            } => self.push_done(number, session, *count, *committed),
             Reply::Refused(refusal) => self.push_refused(number, session, refusal),
         }
     }
@@ -108,9 +111,9 @@ impl Output {
         number: u64,
         session: &str,
         count: Option<u64>,
-        committed: Option<u64>,
+        committed: Option<CommitNo>,
     ) -> Result<(), AllocError>
-        ensures { OnOk result (self.new ≡ self.old ++ line number session.now (codes "ok" ++ text_or_nothing count_text count ++ text_or_nothing committed_text committed)) }
+        ensures { OnOk result (self.new ≡ self.old ++ printed_line (OkOf number session.now count (number_of committed))) }
     {
         self.push_item(number, session)?;
         self.push_count(count)?;
@@ -141,11 +144,11 @@ impl Output {
     }
 
     // The number of a commit, and the end of the line.
-    fn push_committed(&mut self, committed: Option<u64>) -> Result<(), AllocError>
-        ensures { OnOk result (self.new ≡ self.old ++ (text_or_nothing committed_text committed ++ codes "\n")) }
+    fn push_committed(&mut self, committed: Option<CommitNo>) -> Result<(), AllocError>
+        ensures { OnOk result (self.new ≡ self.old ++ (text_or_nothing committed_text (number_of committed) ++ codes "\n")) }
     {
         match committed {
-            Some(n) => {
+            Some(CommitNo(n)) => {
                 self.push(b" committed ")?;
                 push_number(&mut self.text, n, b'\n')
             }
@@ -159,7 +162,7 @@ impl Output {
         session: &str,
         refusal: &Refusal,
     ) -> Result<(), AllocError>
-        ensures { OnOk result (self.new ≡ self.old ++ line number session.now (codes "refused " ++ refusal_text refusal.now)) }
+        ensures { OnOk result (self.new ≡ self.old ++ printed_line (RefusedOf number session.now refusal.now)) }
     {
         self.push_item(number, session)?;
         self.push(b": refused ")?;
@@ -175,12 +178,12 @@ impl Output {
             Refusal::Entry => self.push(b"entry"),
             Refusal::Sessions => self.push(b"sessions"),
             Refusal::NotBuilt => self.push(b"not built"),
-            Refusal::Exists(name) => {
-                self.push(b"exists ")?;
-                self.push(name.as_str().as_bytes())
-            }
             Refusal::NoSuch(name) => {
                 self.push(b"no such ")?;
+                self.push(name.as_str().as_bytes())
+            }
+            Refusal::Exists(name) => {
+                self.push(b"exists ")?;
                 self.push(name.as_str().as_bytes())
             }
         }

@@ -1,7 +1,6 @@
 // The top call.
 ghost use Rattle.std.specs.Prelude.{◌≡◌, ◌⊎◌, ◌↔◌, ℕ, ◌+◌, ◌^◌, ◌<◌, ◌≤◌, List, [], ◌++◌, true, false, None, Some, Ok, Err, length, OnOk, IfErr, IsErrOf, MatchResult};
 ghost use Rattle.hs_host.specs.Host.{Rose};
-ghost use Rattle.hs_gate.specs.Crash.{IsCalm};
 ghost use Rattle.hs_gate.specs.Groups.{is_born};
 ghost use Rattle.hs_host.specs.Disk.{settled};
 ghost use Rattle.hs_host.specs.Files.{IsUnnamed, IsOpen, IsForeign, IsHonest};
@@ -12,7 +11,9 @@ ghost use Rattle.hs_top.specs.Crash.{IsSafe, IsSafeFromOpening, IsUnbornOrSurviv
 ghost use Rattle.hs_top.specs.Holding.{IsHeld};
 ghost use Rattle.hs_top.specs.Machine.{WritesPrefix, transcript, transcript_within, machine, texts_of};
 ghost use Rattle.hs_top.specs.Opening.{Opened, opened_of, opened_by, begun_with, texts_at, texts_from, ended_with, shown, IsWholeLog, IsDamageOf};
-ghost use Rattle.hs_top.specs.Running.{IsLog, IsSound, HasRoom, OnlyLog, texts_in, is_damaged, has_opened};
+ghost use Rattle.hs_host.specs.Used.{Told, UsesAll};
+ghost use Rattle.hs_top.specs.Running.{Stands, OnlyLog, texts_in, is_damaged, has_opened};
+ghost use Rattle.hs_top.specs.Stop.{RunStops};
 
 use crate::command::database_of;
 use crate::damage::Damage;
@@ -22,6 +23,7 @@ use crate::output::Output;
 use crate::running::Running;
 use crate::sessions::Sessions;
 use crate::status::Status;
+use crate::stop::Stop;
 use crate::work::Work;
 use hs_entries::EntryReader;
 use hs_host::{FileKind, Host, MountFault};
@@ -167,39 +169,28 @@ fn serve<H: Host>(alloc: Global, host: &mut H) -> Result<(), Status>
 {
     let opening = match open_log(alloc, host) {
         Ok(opening) => opening,
-        Err(status) => return Err(status),
+        Err(stop) => return Err(Status::from(stop)),
     };
-    answer_all(alloc, opening, host)
+    match answer_all(alloc, opening, host) {
+        Ok(()) => Ok(()),
+        Err(stop) => Err(Status::from(stop)),
+    }
 }
 
 // Takes turns until none is left, and writes the first and the last line.
-fn answer_all<H: Host>(alloc: Global, opening: Opening, host: &mut H) -> Result<(), Status>
-    requires opened { IsOpen (H.standing host.old) }
-    requires sound { IsSound opening.log }
-    requires room { HasRoom opening.database.commits opening.log }
-    requires logged { H.tells → IsHonest (H.standing host.old) → IsLog (H.files host.old) opening.log }
-    requires calm { H.tells → IsHonest (H.standing host.old) → IsCalm (H.history host.old) (H.files host.old) opening.log.gated }
-    requires counted { H.tells → IsHonest (H.standing host.old) → opening.database.commits ≡ length (texts_in (H.files host.old)) }
+fn answer_all<H: Host>(alloc: Global, opening: Opening, host: &mut H) -> Result<(), Stop>
+    requires stands { Stands H.Source H.Host.own opening.log opening.database.commits host.old }
+    requires counted { Told H.Source H.Host.own host.old → opening.database.commits ≡ length (texts_in (H.files host.old)) }
     ensures front { H.tells → WritesPrefix (H.written host.old) (H.written host.new) (transcript (begun_with (opened_by opening)) (H.unread host.old)) }
     ensures done { H.tells → OnOk result (H.written host.new ≡ H.written host.old ++ transcript (begun_with (opened_by opening)) (H.unread host.old)) }
-    ensures before_too_long { H.tells → IsErrOf result Status.InputTooLong → H.written host.new ≡ H.written host.old ++ transcript_within (2 ^ 30) (begun_with (opened_by opening)) (H.unread host.old) }
-    ensures log { H.tells → IsHonest (H.standing host.old) → OnOk result (IsWholeLog (H.files host.new).log (texts_in (H.files host.old) ++ texts_from (opened_by opening) (H.unread host.old))) }
-    ensures moments { H.tells → IsHonest (H.standing host.old) → Since (IsHeld (length (texts_in (H.files host.old))) (texts_in (H.files host.old) ++ texts_from (opened_by opening) (H.unread host.old)) (H.written host.old)) (H.history host.old) (H.history host.new) }
-    ensures alone { H.tells → IsHonest (H.standing host.old) → Since (IsLogAlone (H.history host.old).now) (H.history host.old) (H.history host.new) }
-    ensures whole { IfErr result (λ status. is_damaged status ≡ false) }
-    ensures others { H.tells → IsHonest (H.standing host.old) → OnlyLog (H.files host.old) (H.files host.new) }
-    ensures read { H.tells → OnOk result (H.unread host.new ≡ []) }
-    ensures done_within { H.tells → OnOk result (length (H.unread host.old) ≤ 2 ^ 30) }
-    ensures too_long { H.tells → IsErrOf result Status.InputTooLong → 2 ^ 30 < length (H.unread host.old) }
-    ensures input_fault { IsErrOf result Status.InputFault → Rose (H.input_faults host.old) (H.input_faults host.new) }
-    ensures output_fault { IsErrOf result Status.OutputFault → Rose (H.output_faults host.old) (H.output_faults host.new) }
-    ensures disk_fault { IsErrOf result Status.DiskFault → Rose (H.disk_faults host.old) (H.disk_faults host.new) }
-    ensures only { IsErrOf result Status.Done ⊎ IsErrOf result Status.Usage → ⊥ }
-    ensures own_files { IsErrOf result (Status.Damaged Damage.Foreign) → ⊥ }
-    ensures input_later { H.input_faults host.old ≤ H.input_faults host.new }
-    ensures output_later { H.output_faults host.old ≤ H.output_faults host.new }
-    ensures disk_later { H.disk_faults host.old ≤ H.disk_faults host.new }
-    ensures standing { H.standing host.new ≡ H.standing host.old }
+    ensures before_too_long { H.tells → IsErrOf result Stop.TooLong → (2 ^ 30 < length (H.unread host.old)) × (H.written host.new ≡ H.written host.old ++ transcript_within (2 ^ 30) (begun_with (opened_by opening)) (H.unread host.old)) }
+    ensures log { Told H.Source H.Host.own host.old → OnOk result (IsWholeLog (H.files host.new).log (texts_in (H.files host.old) ++ texts_from (opened_by opening) (H.unread host.old))) }
+    ensures moments { Told H.Source H.Host.own host.old → Since (IsHeld (length (texts_in (H.files host.old))) (texts_in (H.files host.old) ++ texts_from (opened_by opening) (H.unread host.old)) (H.written host.old)) (H.history host.old) (H.history host.new) }
+    ensures alone { Told H.Source H.Host.own host.old → Since (IsLogAlone (H.history host.old).now) (H.history host.old) (H.history host.new) }
+    ensures others { Told H.Source H.Host.own host.old → OnlyLog (H.files host.old) (H.files host.new) }
+    ensures read { H.tells → OnOk result ((H.unread host.new ≡ []) × (length (H.unread host.old) ≤ 2 ^ 30)) }
+    ensures uses { UsesAll H.Source H.Host.own host.old host.new }
+    ensures stops { IfErr result (RunStops H.Source H.Host.own host.old host.new) }
 {
     let mut output = Output::new(alloc);
     output.push_opened(opening.database.commits)?;

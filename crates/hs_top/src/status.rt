@@ -1,7 +1,6 @@
 // How a run ends.
 use crate::damage::Damage;
-use hs_gate::GateFault;
-use std::alloc::{AllocError, AllocFailed};
+use crate::stop::Stop;
 
 /// How a run ends. Each status but `Done` and `NoMemory` has one cause. What is said of the input, the output and the files
 /// is said of a host that tells them.
@@ -49,39 +48,20 @@ impl Status {
     }
 }
 
-impl From<AllocError> for Status {
-    ghost use Rattle.std.specs.Prelude.{◌≡◌};
-    ghost use Rattle.hs_top.specs.declared.status.Status.TheVariants.{NoMemory};
-
-    ghost from_gives = { λ _ status. status ≡ NoMemory };
-
-    fn from(_: AllocError) -> Self {
-        Status::NoMemory
-    }
-}
-
-impl<T: Drop> From<AllocFailed<T>> for Status {
-    ghost use Rattle.std.specs.Prelude.{◌≡◌};
-    ghost use Rattle.hs_top.specs.declared.status.Status.TheVariants.{NoMemory};
-
-    ghost from_gives = { λ _ status. status ≡ NoMemory };
-
-    fn from(_: AllocFailed<T>) -> Self {
-        Status::NoMemory
-    }
-}
-
-impl From<GateFault> for Status {
+impl From<Stop> for Status {
     ghost use Rattle.std.specs.Prelude.{◌≡◌};
     ghost use Rattle.hs_top.specs.Status.{status_of};
 
-    ghost from_gives = { λ f status. status ≡ status_of f };
+    ghost from_gives = { λ stop status. status ≡ status_of stop };
 
-    fn from(fault: GateFault) -> Self {
-        match fault {
-            GateFault::Disk => Status::DiskFault,
-            GateFault::Broken(group) => Status::Damaged(Damage::Log(group)),
-            GateFault::NoMemory => Status::NoMemory,
+    fn from(stop: Stop) -> Self {
+        match stop {
+            Stop::Input => Status::InputFault,
+            Stop::Output => Status::OutputFault,
+            Stop::Disk => Status::DiskFault,
+            Stop::NoMemory => Status::NoMemory,
+            Stop::Damaged(group) => Status::Damaged(Damage::Log(group)),
+            Stop::TooLong => Status::InputTooLong,
         }
     }
 }

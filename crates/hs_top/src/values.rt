@@ -1,6 +1,6 @@
 // How values are written.
 ghost use Rattle.std.specs.Prelude.{◌≡◌, ◌++◌, [], OnOk, codes, if◌then◌else◌};
-ghost use Rattle.hs_top.specs.Lines.{row_text, value_text};
+ghost use Rattle.hs_machine.specs.Values.{row_text, value_text};
 
 use crate::integer::push_integer;
 use hs_values::Value;

@@ -16,8 +16,8 @@ use Rattle.hs_values.specs.declared.value.Value.{Value}
 use Rattle.hs_values.specs.declared.value.Value.TheVariants as v
 use Rattle.hs_values.specs.Key.{without_zeros, key_of}
 use Rattle.hs_values.specs.Order.{whole, number_cmp, order_of, row_order_of}
-use Rattle.hs_values.proofs.Lawful.{order_of_total}
-use Rattle.hs_values.proofs.Scales.{number_cmp_total, compared_times, times_times, times_swap, ten_positive}
+use Rattle.hs_values.specs.TotalOrder.{order_of_total}
+use Rattle.hs_values.specs.NumberOrder.{number_cmp_total, compared_times, times_times, times_swap, ten_positive}
 
 -- units ending in a zero, behind the point
 pub without_zeros_at_zero : (units : ℤ) (places : ℕ) → int_rem units (pos 10) ≡ pos 0 → without_zeros units (suc places) ≡ without_zeros (int_div units (pos 10)) places
@@ -108,7 +108,7 @@ without_zeros-short units (suc places) =
           subst IsShort (sym (without_zeros_at_other units places others)) (inr others)
     ]
 
-cancelled : (a b : ℤ) (k : ℕ) → 0 < k → a *ℤ pos k ≡ b *ℤ pos k → a ≡ b
+pub cancelled : (a b : ℤ) (k : ℕ) → 0 < k → a *ℤ pos k ≡ b *ℤ pos k → a ≡ b
 cancelled a b k p h =
     int_ranked a b Equal (int_cmp_is (a *ℤ pos k) (b *ℤ pos k) Equal h ∙ compared_times a b k p)
 
@@ -140,16 +140,16 @@ short_same a b left right h = elim (cases_Bool (nat_le a.scale b.scale)) [
 pub shortened_ties : (units : ℤ) (places : ℕ) → number_cmp (without_zeros units places) (record { units = units; scale = places }) ≡ Equal
 shortened_ties units places = same_to (without_zeros units places) (record { units = units; scale = places }) (without_zeros-is_same units places)
 
-truths_alike : (x y : Bool) → bool_cmp x y ≡ Equal → x ≡ y
+pub truths_alike : (x y : Bool) → bool_cmp x y ≡ Equal → x ≡ y
 truths_alike false false h = refl
 truths_alike false true h = cc
 truths_alike true false h = cc
 truths_alike true true h = refl
 
-texts_alike : (xs ys : List ℕ) → slice_cmp nat_cmp xs ys ≡ Equal → xs ≡ ys
+pub texts_alike : (xs ys : List ℕ) → slice_cmp nat_cmp xs ys ≡ Equal → xs ≡ ys
 texts_alike xs ys h = (bytes_decides xs ys).0 (texts_ties xs ys ∙ ap is_eq h)
 
-then_Equal : (r s : Ordering) → ordering_then r s ≡ Equal → (r ≡ Equal) × (s ≡ Equal)
+pub then_Equal : (r s : Ordering) → ordering_then r s ≡ Equal → (r ≡ Equal) × (s ≡ Equal)
 then_Equal Less s h = cc
 then_Equal Equal s h = (refl, h)
 then_Equal Greater s h = cc

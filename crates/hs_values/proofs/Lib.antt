@@ -1,8 +1,12 @@
 pub mod Assigned
 pub mod Bags
 pub mod DecimalWidths
+pub mod Faults
+pub mod KeyedBags
+pub mod KeyedRows
 pub mod Keys
 pub mod Lawful
+pub mod OneType
 pub mod Rows
 pub mod Scales
 pub mod Stable

@@ -1,9 +1,9 @@
 -- The order of values, and that of rows.
-use Rattle.std.specs.Prelude.{ℕ, ◌^◌, List, ℤ, pos, ◌*ℤ◌, Option, Some, None}
+use Rattle.std.specs.Prelude.{ℕ, ◌^◌, Bool, true, false, List, [], ◌∷◌, ℤ, pos, ◌*ℤ◌, Option, Some, None}
 use Rattle.std.specs.Cmp.Lexicographic.{slice_cmp}
-use Rattle.std.specs.Ordering.{nat_cmp, int_cmp, bool_cmp}
+use Rattle.std.specs.Ordering.{nat_cmp, int_cmp, bool_cmp, ordering_then, then_cmp, on, flip_args}
 use Rattle.std.specs.declared.cmp.Ordering.{Ordering}
-use Rattle.std.specs.declared.cmp.Ordering.TheVariants.{Equal}
+use Rattle.std.specs.declared.cmp.Ordering.TheVariants.{Less, Equal, Greater}
 use Rattle.hs_values.specs.declared.value.Dec.{Dec}
 use Rattle.hs_values.specs.declared.value.Value.{Value}
 use Rattle.hs_values.specs.declared.value.Value.TheVariants as v
@@ -54,6 +54,28 @@ order_of a b = nat_cmp (kind_of a) (kind_of b)
 -- the order of rows: by the first column in which they differ, and a row before a longer one that it begins
 abbrev pub row_order_of : List Value → List Value → Ordering
 row_order_of = slice_cmp order_of
+
+-- a value is there, and not NULL
+abbrev pub is_there : Value → Bool
+is_there v.Null = false
+is_there a = true
+
+-- the order of a column: ascending that of all values; descending the other way round, but NULL first too
+abbrev pub column_order : Bool → Value → Value → Ordering
+column_order false = order_of
+column_order true = then_cmp (on is_there bool_cmp) (flip_args order_of)
+
+-- by the first column, and where that ties by the others; a row before a longer one that it begins
+abbrev pub first_then : {X : Type 0} → (X → X → Ordering) → (List X → List X → Ordering) → List X → List X → Ordering
+first_then first others [] [] = Equal
+first_then first others [] (y ∷ ys) = Less
+first_then first others (x ∷ xs) [] = Greater
+first_then first others (x ∷ xs) (y ∷ ys) = ordering_then (first x y) (others xs ys)
+
+-- the order of rows with a flag for each of the first columns, descending where it is true, and then by all further columns, ascending
+abbrev pub keyed_order_of : List Bool → List Value → List Value → Ordering
+keyed_order_of [] = row_order_of
+keyed_order_of (descending ∷ flags) = first_then (column_order descending) (keyed_order_of flags)
 
 -- the comparison of SQL, which has no answer where there is a NULL
 abbrev pub cmp_of : Value → Value → Option Ordering

@@ -1,5 +1,6 @@
 -- The values of a type, and what is stored where a value is assigned.
-use Rattle.std.specs.Prelude.{ℕ, ◌^◌, Bool, true, false, ◌&&◌, ◌==◌, nat_lt, nat_le, min, ℤ, pos, negsuc, int_le, unsigned_abs, length, if◌then◌else◌, Result, Ok, Err}
+use Rattle.std.specs.Prelude.{ℕ, ◌^◌, Bool, true, false, ◌&&◌, ◌==◌, nat_lt, nat_le, min, ℤ, pos, negsuc, unsigned_abs, List, length, if◌then◌else◌, Result, Ok, Err}
+use Rattle.std.specs.Cmp.Lexicographic.{pointwise}
 use Rattle.std.specs.Str.{chars}
 use Rattle.hs_values.specs.declared.fault.EvalFault.{EvalFault}
 use Rattle.hs_values.specs.declared.fault.EvalFault.TheVariants.{Range, TooLong}
@@ -10,9 +11,7 @@ use Rattle.hs_values.specs.declared.value.Value.{Value}
 use Rattle.hs_values.specs.declared.value.Value.TheVariants as v
 use Rattle.hs_values.specs.Decimal.{units_at}
 use Rattle.hs_values.specs.Order.{whole}
-
-abbrev pub is_from_to : ℤ → ℤ → ℤ → Bool
-is_from_to low high n = int_le low n && int_le n high
+use Rattle.hs_values.specs.Years.{is_day, is_moment}
 
 -- the signed numbers of 1 + bits bits
 abbrev pub is_signed : ℕ → ℤ → Bool
@@ -22,13 +21,6 @@ is_signed bits (negsuc n) = nat_lt n (2 ^ bits)
 -- a decimal of this scale with at most so many digits, 38 being the most of either
 abbrev pub has_digits : ℕ → ℕ → Dec → Bool
 has_digits precision scale d = (d.scale == scale) && nat_le scale 38 && nat_lt (unsigned_abs d.units) (10 ^ min precision 38)
-
--- the days from 0001-01-01 to 9999-12-31, counted from 1970-01-01, and the microseconds from the first one's beginning to the last one's end
-abbrev pub is_day : ℤ → Bool
-is_day = is_from_to (negsuc 719161) (pos 2932896)
-
-abbrev pub is_moment : ℤ → Bool
-is_moment = is_from_to (negsuc 62135596799999999) (pos 253402300799999999)
 
 -- whether a value is one of the type's, of which NULL is one
 abbrev pub fits_of : SqlType → Value → Bool
@@ -42,6 +34,10 @@ fits_of t.Bool (v.Bool b) = true
 fits_of t.Date (v.Day day) = is_day day
 fits_of t.Stamp (v.Micros micros) = is_moment micros
 fits_of _ _ = false
+
+-- a row with as many values as there are types, each one of its own type's
+abbrev pub row_fits : List SqlType → List Value → Bool
+row_fits = pointwise fits_of
 
 -- the units that a number has in a DECIMAL column, or as a whole number
 abbrev pub column_form : SqlType → Value → Value

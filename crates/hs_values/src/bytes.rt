@@ -87,6 +87,7 @@ impl Bytes {
         self.items.clear();
     }
 
+    /// The same bytes in memory of its own, with room for nothing more. An `Err` is want of memory.
     pub fn copy(&self) -> Result<Bytes, AllocError>
         ensures { IfOk result (λ copied. copied ≡ self.now) }
     {

@@ -2,8 +2,9 @@
 ghost use Rattle.std.specs.Prelude.{◌≡◌, ◌^◌, pos, ◌*ℤ◌, SomeIff, FitsSigned, OnOk, OnErr, map, IsNone, ◌↔◌, ◌⊎◌};
 ghost use Rattle.std.specs.Int.{w128};
 ghost use Rattle.std.specs.Ordering.{int_cmp};
-ghost use Rattle.hs_values.specs.Order.{seen, whole, kind_of, number_cmp, order_of, row_order_of, cmp_of};
-ghost use Rattle.hs_values.specs.Sorted.{sorted_by, sorted_rows};
+ghost use Rattle.hs_values.specs.Order.{seen, whole, kind_of, number_cmp, order_of, row_order_of, column_order, keyed_order_of, cmp_of};
+ghost use Rattle.hs_values.specs.Decimal.{IsDecimal};
+ghost use Rattle.hs_values.specs.Sorted.{keyed_rows, sorted_rows};
 
 use crate::decimal::{MOST_DIGITS, ten_to};
 use crate::row::Row;
@@ -50,9 +51,10 @@ fn compare_numbers(a: Dec, b: Dec) -> Ordering
     }
 }
 
-/// A whole number as a decimal.
-pub(crate) fn whole(n: i64) -> Dec
-    ensures { result ≡ whole n }
+/// A whole number as a decimal without digits behind the point.
+pub fn whole(n: i64) -> Dec
+    ensures value { result ≡ whole n }
+    ensures lawful { IsDecimal result }
 {
     Dec {
         units: i128::from(n),
@@ -133,11 +135,51 @@ fn order_values(a: &Value, b: &Value) -> Ordering
     }
 }
 
+// The order of two values of a column: descending the other way round, but with NULL first too.
+#[inline]
+fn order_column(a: &Value, b: &Value, descending: bool) -> Ordering
+    ensures { result ≡ column_order descending a.now b.now }
+{
+    match (a, b) {
+        (Value::Null, _) | (_, Value::Null) => order_values(a, b),
+        _ if descending => order_values(b, a),
+        _ => order_values(a, b),
+    }
+}
+
+/// The order of two rows with a flag for each of the first columns: that of the first column from the left
+/// in which they differ, the other way round where its flag is true, and ascending in the columns behind
+/// those with a flag. NULL stands first in every column, also in a descending one. A row stands before a
+/// longer one that begins with it. Takes no memory.
+pub fn order_rows_by(a: &[Value], b: &[Value], descending: &[bool]) -> Ordering
+    ensures { result ≡ keyed_order_of descending.now a.now b.now }
+{
+    let keys = descending.len().min(a.len()).min(b.len());
+    for i in 0..keys {
+        match order_column(&a[i], &b[i], descending[i]) {
+            Ordering::Equal => {}
+            decided => return decided,
+        }
+    }
+    order_rows(&a[keys..], &b[keys..])
+}
+
 /// Sorts rows by `order_rows`, ascending; equal rows stay as they stood. Takes memory for more than
 /// twenty rows, and after an `Err`, which is want of it, nothing is moved.
 pub fn sort_rows(rows: &mut Vec<&Row>) -> Result<(), AllocError>
     ensures ok { OnOk result (map (λ r. r.now) rows.new.items ≡ sorted_rows (map (λ r. r.now) rows.old.items)) }
     ensures err { OnErr result (rows.new.items ≡ rows.old.items) }
 {
-    rows.sort_by(|a, b| order_rows(a.as_slice(), b.as_slice()))
+    sort_rows_by(rows, &[])
+}
+
+/// Sorts rows by `order_rows_by`: in the order of their first columns, of which there is a flag for each,
+/// descending where it is true, and then of all further columns, ascending. NULL stands first in every
+/// column. Equal rows stay as they stood. Takes memory for more than twenty rows, and after an `Err`,
+/// which is want of it, nothing is moved.
+pub fn sort_rows_by(rows: &mut Vec<&Row>, descending: &[bool]) -> Result<(), AllocError>
+    ensures ok { OnOk result (map (λ r. r.now) rows.new.items ≡ keyed_rows descending.now (map (λ r. r.now) rows.old.items)) }
+    ensures err { OnErr result (rows.new.items ≡ rows.old.items) }
+{
+    rows.sort_by(|a, b| order_rows_by(a.as_slice(), b.as_slice(), descending))
 }

@@ -1,4 +1,7 @@
 // Why an expression has no value.
+ghost use Rattle.std.specs.Prelude.{◌≡◌};
+ghost use Rattle.hs_values.specs.Fault.{number_of, lesser};
+
 use std::alloc::{AllocError, AllocFailed};
 
 /// Why an expression has no value. Of several faults the least counts, in this order.
@@ -16,6 +19,33 @@ pub enum EvalFault {
     MoreThanOne,
     /// Memory was refused. No rule says when.
     NoMemory,
+}
+
+impl EvalFault {
+    /// The fault's number, from 1 for `DivisionByZero` to 5 for `MoreThanOne`; 6 for `NoMemory`.
+    pub fn number(self) -> u8
+        ensures { result ≡ number_of self }
+    {
+        match self {
+            EvalFault::DivisionByZero => 1,
+            EvalFault::Range => 2,
+            EvalFault::TooLong => 3,
+            EvalFault::BadDate => 4,
+            EvalFault::MoreThanOne => 5,
+            EvalFault::NoMemory => 6,
+        }
+    }
+
+    /// Of two faults the one that counts, which is that of the lesser number.
+    pub fn lesser(self, other: EvalFault) -> EvalFault
+        ensures { result ≡ lesser self other }
+    {
+        if self.number() <= other.number() {
+            self
+        } else {
+            other
+        }
+    }
 }
 
 impl From<AllocError> for EvalFault {

@@ -71,10 +71,12 @@ impl Row {
         Ok(())
     }
 
+    /// The same row in memory of its own, with room for nothing more. An `Err` is want of memory, and
+    /// what was copied by then is given back.
     pub fn copy(&self) -> Result<Row, AllocError>
         ensures { IfOk result (λ copied. copied ≡ self.now) }
     {
-        let mut values = Vec::new(*self.values.allocator());
+        let mut values = Vec::with_capacity(*self.values.allocator(), self.values.len())?;
         for value in &self.values {
             values.push(value.copy()?)?;
         }

@@ -71,10 +71,12 @@ impl RowList {
         Ok(())
     }
 
+    /// The same rows in memory of its own, with room for nothing more. An `Err` is want of memory, and
+    /// what was copied by then is given back.
     pub fn copy(&self) -> Result<RowList, AllocError>
         ensures { IfOk result (λ copied. copied ≡ self.now) }
     {
-        let mut rows = Vec::new(*self.rows.allocator());
+        let mut rows = Vec::with_capacity(*self.rows.allocator(), self.rows.len())?;
         for row in &self.rows {
             rows.push(row.copy()?)?;
         }

@@ -255,20 +255,13 @@ static PLACES: [usize; 21] = [
     6, 7, 8, 1, 9, 18, 19, 5, 12, 3, 4, 11, 10, 14, 17, 0, 16, 20, 13, 2, 15,
 ];
 
+/// The same where the number descends.
+static DESCENDING_PLACES: [usize; 21] = [
+    6, 7, 8, 13, 2, 15, 3, 4, 11, 10, 14, 17, 0, 16, 20, 1, 9, 18, 19, 5, 12,
+];
+
 fn decimal(units: i128, scale: u8) -> ValueRef<'static> {
     ValueRef::Dec(Dec { units, scale })
-}
-
-fn owned(alloc: Global, value: ValueRef<'_>) -> Result<Value, AllocError> {
-    Ok(match value {
-        Null => Value::Null,
-        Int(n) => Value::Int(n),
-        ValueRef::Dec(d) => Value::Dec(d),
-        Text(text) => Value::Text(Chars::from_text(alloc, text)?),
-        Bool(b) => Value::Bool(b),
-        Day(day) => Value::Day(day),
-        Micros(micros) => Value::Micros(micros),
-    })
 }
 
 /// Whether two values are of one kind and written alike.
@@ -294,8 +287,8 @@ fn are_ordered(
 ) -> Result<bool, AllocError> {
     let nulls = alike(a, Null) || alike(b, Null);
     let compared = if nulls { None } else { Some(want) };
-    let a_key = owned(alloc, a)?.into_key();
-    let b_key = owned(alloc, b)?.into_key();
+    let a_key = a.to_value(alloc)?.into_key();
+    let b_key = b.to_value(alloc)?.into_key();
     let one_key = alike(a_key.as_value_ref(), b_key.as_value_ref());
     Ok(
         order(a, b) == want
@@ -312,12 +305,12 @@ fn is_stored(
     value: ValueRef<'_>,
     want: Result<ValueRef<'_>, EvalFault>,
 ) -> Result<bool, AllocError> {
-    let given = owned(alloc, value)?;
+    let given = value.to_value(alloc)?;
     let fitting = fits(&sql_type, &given);
     Ok(match (assign(given, &sql_type), want) {
         (Ok(stored), Ok(wanted)) => {
             alike(stored.as_value_ref(), wanted)
-                && fits(&sql_type, &stored)
+                && stored.as_value_ref().fits(&sql_type)
                 && fitting == alike(value, wanted)
         }
         (Err(fault), Err(wanted)) => fault == wanted && !fitting,
@@ -416,101 +409,34 @@ fn written_rows(alloc: Global) -> Result<RowList, AllocError> {
     let mut rows = RowList::new(alloc);
     for (parts, letter) in &ROWS {
         let mut row = Row::new(alloc);
-        row.push(owned(alloc, number(*parts))?)?;
-        row.push(owned(alloc, text(*letter))?)?;
+        row.push(number(*parts).to_value(alloc)?)?;
+        row.push(text(*letter).to_value(alloc)?)?;
         rows.push(row)?;
     }
     Ok(rows)
 }
 
-#[test]
-fn rows_are_sorted_and_lists_kept(rt: HostRuntime) -> Result<(), Fail> {
-    let rows = written_rows(rt.alloc())?;
-    let mut sorted = Vec::new(rt.alloc());
-    for row in rows.as_slice() {
-        sorted.push(row)?;
-    }
-    sort_rows(&mut sorted)?;
+fn stand_so(rt: &impl Abort, sorted: &[&Row], places: &[usize; 21]) {
     assert_eq!(rt; sorted.len(), ROWS.len());
-    for (row, place) in sorted.iter().zip(&PLACES) {
+    for (row, place) in sorted.iter().zip(places) {
         let values = row.as_slice();
         assert!(rt; *place < ROWS.len() && values.len() == 2);
         let (parts, letter) = ROWS[*place];
         assert!(rt; alike(values[0].as_value_ref(), number(parts)), "{place}");
         assert!(rt; alike(values[1].as_value_ref(), text(letter)), "{place}");
     }
-    texts(&rt, rt.alloc())?;
-    lists(&rt, rt.alloc())
 }
 
-fn texts(rt: &impl Abort, alloc: Global) -> Result<(), Fail> {
-    let mut chars = Chars::new(alloc);
-    assert!(rt; chars.is_empty());
-    chars.push_text("añ")?;
-    chars.push('b')?;
-    assert_eq!(rt; chars.copy()?.as_str(), "añb");
-    assert_eq!(rt; Chars::from_string(chars.into_string()).len(), 4);
-    let name = Name::from_string(String::from_str(alloc, "T")?);
-    assert_eq!(rt;
-        name.copy()?.as_str(),
-        Name::from_text(alloc, "T")?.as_str()
-    );
-    let mut words = Words::new(alloc);
-    words.push(Chars::from_text(alloc, "hsql")?)?;
-    assert_eq!(rt; words.copy()?.as_slice().len(), 1);
+#[test]
+fn rows_are_sorted(rt: HostRuntime) -> Result<(), Fail> {
+    let rows = written_rows(rt.alloc())?;
+    let mut sorted = Vec::new(rt.alloc());
+    for row in rows.as_slice() {
+        sorted.push(row)?;
+    }
+    sort_rows(&mut sorted)?;
+    stand_so(&rt, &sorted, &PLACES);
+    sort_rows_by(&mut sorted, &[true])?;
+    stand_so(&rt, &sorted, &DESCENDING_PLACES);
     Ok(())
-}
-
-fn lists(rt: &impl Abort, alloc: Global) -> Result<(), Fail> {
-    let mut bytes = Bytes::new(alloc);
-    assert!(rt; bytes.is_empty());
-    bytes.push(7)?;
-    bytes.extend(&[8, 9])?;
-    assert_eq!(rt; bytes.copy()?.as_slice(), [7, 8, 9].as_slice());
-    bytes.clear();
-    assert_eq!(rt; Bytes::from_vec(bytes.into_vec()).len(), 0);
-    let mut types = Types::new(alloc);
-    assert!(rt; types.is_empty());
-    types.push(Small)?;
-    assert_eq!(rt; types.copy()?.as_slice(), [Small].as_slice());
-    assert_eq!(rt; Types::from_vec(types.into_vec()).len(), 1);
-    let mut row = Row::new(alloc);
-    assert!(rt; row.is_empty());
-    row.push(Value::Text(Chars::from_text(alloc, "x")?))?;
-    assert_eq!(rt; order_rows(&[], row.as_slice()), Less);
-    assert_eq!(rt; row.len(), 1);
-    let mut rows = RowList::new(alloc);
-    assert!(rt; rows.is_empty());
-    rows.push(row.copy()?)?;
-    rows.push(Row::from_vec(row.into_vec()))?;
-    assert_eq!(rt; rows.copy()?.as_slice().len(), 2);
-    assert_eq!(rt; RowList::from_vec(rows.into_vec()).len(), 2);
-    calls_without_memory(rt);
-    Ok(())
-}
-
-fn calls_without_memory(rt: &impl Abort) {
-    assert_eq!(rt; EvalFault::from(AllocError), EvalFault::NoMemory);
-    assert_eq!(rt; ten_to(3), 1000);
-    assert_eq!(rt; checked_decimal(5, 39), Err(Range));
-    let cut = rescale(
-        Dec {
-            units: -199,
-            scale: 2,
-        },
-        0,
-    );
-    assert_eq!(rt;
-        cut,
-        Ok(Dec {
-            units: -1,
-            scale: 0
-        })
-    );
-    laws::values_are_ordered();
-    laws::rows_are_ordered();
-    laws::rows_have_one_order();
-    laws::a_bag_has_one_order();
-    laws::equal_values_have_one_key();
-    laws::values_of_a_type_are_assigned_as_they_are();
 }

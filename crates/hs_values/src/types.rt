@@ -71,6 +71,7 @@ impl Types {
         Ok(())
     }
 
+    /// The same list in memory of its own, with room for nothing more. An `Err` is want of memory.
     pub fn copy(&self) -> Result<Types, AllocError>
         ensures { IfOk result (λ copied. copied ≡ self.now) }
     {

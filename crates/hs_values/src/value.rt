@@ -3,7 +3,7 @@ ghost use Rattle.std.specs.Prelude.{◌≡◌, IfOk};
 ghost use Rattle.hs_values.specs.Order.{seen};
 
 use crate::chars::Chars;
-use std::alloc::AllocError;
+use std::alloc::{AllocError, Global};
 
 /// A decimal number: `units / 10^scale`. The calls of this engine's crates take and give at most
 /// 38 digits of units and a scale of at most 38.
@@ -67,6 +67,7 @@ impl Value {
         }
     }
 
+    /// The same value in memory of its own, of which a text alone takes some. An `Err` is want of it.
     pub fn copy(&self) -> Result<Value, AllocError>
         ensures { IfOk result (λ copied. copied ≡ self.now) }
     {
@@ -78,6 +79,23 @@ impl Value {
             Value::Bool(b) => Ok(Value::Bool(*b)),
             Value::Day(d) => Ok(Value::Day(*d)),
             Value::Micros(m) => Ok(Value::Micros(*m)),
+        }
+    }
+}
+
+impl ValueRef<'_> {
+    /// The same value, its text copied, which alone takes memory. An `Err` is want of it.
+    pub fn to_value(self, alloc: Global) -> Result<Value, AllocError>
+        ensures { IfOk result (λ copied. copied ≡ seen self.entry) }
+    {
+        match self {
+            ValueRef::Null => Ok(Value::Null),
+            ValueRef::Int(n) => Ok(Value::Int(n)),
+            ValueRef::Dec(d) => Ok(Value::Dec(d)),
+            ValueRef::Text(t) => Ok(Value::Text(Chars::from_text(alloc, t)?)),
+            ValueRef::Bool(b) => Ok(Value::Bool(b)),
+            ValueRef::Day(d) => Ok(Value::Day(d)),
+            ValueRef::Micros(m) => Ok(Value::Micros(m)),
         }
     }
 }

@@ -44,10 +44,12 @@ impl Words {
         &self.words
     }
 
+    /// The same words in memory of its own, with room for nothing more. An `Err` is want of memory, and
+    /// what was copied by then is given back.
     pub fn copy(&self) -> Result<Words, AllocError>
         ensures { IfOk result (λ copied. copied ≡ self.now) }
     {
-        let mut words = Vec::new(*self.words.allocator());
+        let mut words = Vec::with_capacity(*self.words.allocator(), self.words.len())?;
         for word in &self.words {
             words.push(word.copy()?)?;
         }

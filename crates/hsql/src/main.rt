@@ -1,12 +1,14 @@
 //! The program `hsql`: the engine over standard input, standard output and the files of a database.
 #![tactic(auto)]
 
-use hs_realhost::FileHost;
+use hs_realhost::{FileHost, Reason};
 use hs_top::{Damage, Status, run};
 use hs_values::{Chars, Words};
-use std::alloc::Global;
+use std::alloc::{AllocError, Global};
+use std::fs::File;
+use std::io::{Read, Write};
 use std::process::ExitCode;
-use std::rt::Env;
+use std::rt::{Env, Files};
 use std::{env, io};
 
 // The words of the command line, the program's own name first.
@@ -18,19 +20,44 @@ fn words<R: Env + Alloc>(rt: &R, alloc: Global) -> io::Result<Words> {
     Ok(words)
 }
 
-// Says on standard error how a run ended that wasn't done.
-fn say(rt: &HostRuntime, status: &Status) -> io::Result<()> {
+// Says on standard error how a run ended that wasn't done: the words of its status, and behind them what they are about.
+fn say<'a, F: Files<File = File>, R: Read + Drop, W: Write + Drop>(
+    rt: &HostRuntime,
+    status: &Status,
+    host: &FileHost<'a, F, R, W>,
+) -> io::Result<()> {
+    let name = host.name();
     match status {
         Status::Done => Ok(()),
-        Status::Usage => eprintln!(rt; "hsql: usage"),
-        Status::InputFault => eprintln!(rt; "hsql: input fault"),
-        Status::OutputFault => eprintln!(rt; "hsql: output fault"),
-        Status::DiskFault => eprintln!(rt; "hsql: disk fault"),
+        Status::Usage => eprintln!(rt; "hsql: usage: hsql DATABASE < ENTRIES"),
+        Status::InputFault => say_why(rt, "input fault", host.input_reason()),
+        Status::OutputFault => say_why(rt, "output fault", host.output_reason()),
+        Status::DiskFault => say_why(rt, "disk fault", host.disk_reason()),
         Status::NoMemory => eprintln!(rt; "hsql: out of memory"),
-        Status::Damaged(Damage::Foreign) => eprintln!(rt; "hsql: damaged foreign"),
-        Status::Damaged(Damage::Log(group)) => eprintln!(rt; "hsql: damaged log {group}"),
+        Status::Damaged(Damage::Foreign) => {
+            let ending = host.foreign_ending();
+            eprintln!(rt; "hsql: damaged foreign: {name}{ending}")
+        }
+        Status::Damaged(Damage::Log(group)) => {
+            eprintln!(rt; "hsql: damaged log {group}: {name}.log")
+        }
         Status::InputTooLong => eprintln!(rt; "hsql: input too long"),
     }
+}
+
+// Says which device failed and, where it is known and there is memory, why.
+fn say_why(rt: &HostRuntime, fault: &str, reason: Option<Reason<'_>>) -> io::Result<()> {
+    match reason.map(|reason| text_of(rt.alloc(), reason)) {
+        Some(Ok(text)) => match text.split_once(" (os error") {
+            Some((words, _)) => eprintln!(rt; "hsql: {fault}: {words}"),
+            None => eprintln!(rt; "hsql: {fault}: {text}"),
+        },
+        _ => eprintln!(rt; "hsql: {fault}"),
+    }
+}
+
+fn text_of(alloc: Global, reason: Reason<'_>) -> Result<String, AllocError> {
+    format!(in alloc; "{reason}")
 }
 
 fn main(rt: HostRuntime) -> ExitCode {
@@ -41,6 +68,6 @@ fn main(rt: HostRuntime) -> ExitCode {
         Err(error) if error.kind() == io::ErrorKind::OutOfMemory => Status::NoMemory,
         Err(_) => Status::Usage,
     };
-    let _ = say(&rt, &status);
+    let _ = say(&rt, &status, &host);
     ExitCode::from(status.number())
 }

@@ -1,116 +1,130 @@
 use Rattle.std.proofs.Common.{◌≡◌, ℕ, List, ◌++◌, length, sym, ap, subst, ◌∙◌, arith, append_assoc, Err}
 use Rattle.hs_host.specs.Files.{IsHonest}
-use Rattle.hs_host.specs.Moments.{Since, IsPrinted}
+use Rattle.hs_host.specs.Moments.{Since}
+use Rattle.hs_host.specs.Used.{Told}
 use Rattle.hs_host.proofs.Passing.{since_weaker, since_join, since_now}
-use Rattle.hs_gate.specs.Crash.{IsCalm}
-use Rattle.hs_top.specs.Holding.{IsHeld, IsGathered, IsAcknowledging}
+use Rattle.hs_machine.specs.Lines.{printed}
+use Rattle.hs_top.specs.Acknowledged.{IsNamed}
+use Rattle.hs_top.specs.Holding.{IsHeld, IsGathered, IsAcknowledging, IsHandedOver}
 use Rattle.hs_top.specs.Machine.{step_of}
 use Rattle.hs_top.specs.Running.{state_of, texts_in}
-use Rattle.hs_top.specs.Acknowledged.{IsNamed}
-use Rattle.hs_top.proofs.Alone.{alone_stepping, alone_printing, alone_on}
-use Rattle.hs_top.proofs.Holding.{calm_told, gathered_step, held_failed, held_step, held_telling, telling_step, telling_handed}
 use Rattle.hs_top.proofs.Acknowledged.{one_text}
+use Rattle.hs_top.proofs.Alone.{alone_stepping, alone_printing, alone_on}
+use Rattle.hs_top.proofs.Holding.{gathered_step, held_failed, held_step, held_telling, stands_handed, telling_step, telling_handed, work_output}
 use Rattle.hs_top.proofs.Prefixes.{front_so_far}
+use Rattle.hs_top.proofs.Stops.{stops_for, any_ok, ok_weaker, output_work}
+use Rattle.hs_top.specs.Stop.{OutputStops, WorkStops}
 use Rattle.hs_top.proofs.answer.answer.Goals as goal
 use Rattle.hs_top.proofs.answer.answer.Goals.{After-perform, After-flush_when_large, After-hand_over}
 
 -- the moments until the item is done
-done : (g : _) (c : After-perform g) → g.H.Source.tells → IsHonest (g.H.Host.standing c.args.host.now) → IsCalm (g.H.Host.history c.args.host.now) (g.H.Host.files c.args.host.now) c.args.work.now.log.gated → IsNamed c.args.item
+done : (g : _) (c : After-perform g) → Told g.H.Source g.H.Host c.args.host.now → IsNamed c.args.item
     → (least : ℕ) (before : List ℕ) (rest : List (List ℕ)) → IsAcknowledging least before (g.H.Host.files c.args.host.now) (g.H.Host.written c.args.host.now) c.args.output.now c.args.work.now.database.commits
     → Since (IsHeld least (texts_in (g.H.Host.files c.args.host.now) ++ ((step_of c.args.item (state_of c.args.work.now)).texts ++ rest)) before) (g.H.Host.history c.args.host.now) (g.H.Host.history c.perform.new.host)
-done g c told honest calm named least before rest t =
+done g c told named least before rest t =
     let s = state_of c.args.work.now in
     let step = step_of c.args.item s in
-    let out = sym (g.met.H.Host.output_now c.args.host.now told) in
+    let stands = c.requires.stands in
+    let out = sym (g.met.H.Host.output_now c.args.host.now told.tells) in
     let all = subst (λ (o : List ℕ). IsGathered before o c.args.output.now s.database.commits) out t.gathered in
-    since_weaker (c.perform.ensures.moments told honest calm)
-    (λ m. held_step (g.H.Host.files c.args.host.now) (g.H.Host.history c.args.host.now) c.args.work.now.log c.requires.whole.sound (c.requires.logged told honest) calm least before s.database.commits t.enough t.counted
-    c.args.output.now step.lines step.texts rest m all
+    since_weaker (c.perform.ensures.moments told)
+    (λ m. held_step (g.H.Host.files c.args.host.now) (g.H.Host.history c.args.host.now) c.args.work.now.log.gated (stands.log told) stands.epoch least before s.database.commits t.enough t.counted
+    c.args.output.now (printed step.lines) step.texts rest m all
     (λ none.
     let same : step.next.database.commits ≡ s.database.commits = omega (arith, one_text c.args.item s, ap length none) in
-    subst (IsGathered before (g.H.Host.history c.args.host.now).now.out (c.args.output.now ++ step.lines)) same (gathered_step before _ c.args.output.now c.args.item s named all)))
+    subst (IsGathered before (g.H.Host.history c.args.host.now).now.out (c.args.output.now ++ printed step.lines)) same (gathered_step before _ c.args.output.now c.args.item s named all)))
 
 -- and what it left
-left : (g : _) (c : After-flush_when_large g) → g.H.Source.tells → IsHonest (g.H.Host.standing c.args.host.now) → IsNamed c.args.item
+left : (g : _) (c : After-flush_when_large g) → Told g.H.Source g.H.Host c.args.host.now → IsNamed c.args.item
     → (least : ℕ) (before : List ℕ) → IsAcknowledging least before (g.H.Host.files c.args.host.now) (g.H.Host.written c.args.host.now) c.args.output.now c.args.work.now.database.commits
     → IsAcknowledging least before (g.H.Host.files c.perform.new.host) (g.H.Host.written c.perform.new.host) c.perform.new.output c.perform.new.work.database.commits
-left g c told honest named least before t =
+left g c told named least before t =
     telling_step least before (g.H.Host.files c.args.host.now) (g.H.Host.files c.perform.new.host) (g.H.Host.written c.args.host.now) (g.H.Host.written c.perform.new.host) c.args.output.now c.perform.new.output c.args.item (state_of c.args.work.now) (state_of c.perform.new.work) named
-    c.in-Ok.ensures.state (c.in-Ok.ensures.texts told honest) (c.in-Ok.ensures.done told) (c.perform.ensures.front told).grown t
+    c.in-Ok.ensures.state (c.in-Ok.ensures.texts told) (c.in-Ok.ensures.done told.tells) (c.perform.ensures.front told.tells).grown t
+
+still : (g : _) (c : After-perform g) → Told g.H.Source g.H.Host c.args.host.now → Told g.H.Source g.H.Host c.perform.new.host
+still g c t = record { tells = t.tells; honest = subst IsHonest (sym c.perform.ensures.uses.standing) t.honest }
 
 -- with the moments while output is handed over
-handed : (g : _) (c : After-flush_when_large g) → g.H.Source.tells → IsHonest (g.H.Host.standing c.args.host.now) → IsCalm (g.H.Host.history c.args.host.now) (g.H.Host.files c.args.host.now) c.args.work.now.log.gated → IsNamed c.args.item
+handed : (g : _) (c : After-flush_when_large g) → Told g.H.Source g.H.Host c.args.host.now → IsNamed c.args.item
     → (least : ℕ) (before : List ℕ) (rest : List (List ℕ)) → IsAcknowledging least before (g.H.Host.files c.args.host.now) (g.H.Host.written c.args.host.now) c.args.output.now c.args.work.now.database.commits
     → Since (IsHeld least (texts_in (g.H.Host.files c.args.host.now) ++ ((step_of c.args.item (state_of c.args.work.now)).texts ++ rest)) before) (g.H.Host.history c.args.host.now) (g.H.Host.history c.flush_when_large.new.host)
-handed g c told honest calm named least before rest t =
+handed g c told named least before rest t =
     let ok = c.in-Ok.ensures in
-    let after = left g c told honest named least before t in
-    let out = sym (g.met.H.Host.output_now c.perform.new.host told) in
+    let at = (goal.at.After-flush_when_large g c).After-perform in
+    let after = left g c told named least before t in
+    let out = sym (g.met.H.Host.output_now c.perform.new.host told.tells) in
     let all = subst (λ (o : List ℕ). IsGathered before o c.perform.new.output c.perform.new.work.database.commits) out after.gathered in
     let texts : texts_in (g.H.Host.files c.perform.new.host) ++ rest ≡ texts_in (g.H.Host.files c.args.host.now) ++ ((step_of c.args.item (state_of c.args.work.now)).texts ++ rest) =
-    ap (λ (ts : List (List ℕ)). ts ++ rest) (ok.texts told honest) ∙ append_assoc (texts_in (g.H.Host.files c.args.host.now)) (step_of c.args.item (state_of c.args.work.now)).texts rest in
-    since_join (done g (goal.at.After-flush_when_large g c).After-perform told honest calm named least before rest t)
-    (since_weaker (c.flush_when_large.ensures.moments told)
+    ap (λ (ts : List (List ℕ)). ts ++ rest) (ok.texts told) ∙ append_assoc (texts_in (g.H.Host.files c.args.host.now)) (step_of c.args.item (state_of c.args.work.now)).texts rest in
+    since_join (done g at told named least before rest t)
+    (since_weaker (c.flush_when_large.ensures.moments told.tells)
     (λ m telling. subst (λ (ts : List (List ℕ)). IsHeld least ts before m) texts
-    (held_telling (g.H.Host.files c.perform.new.host) (g.H.Host.history c.perform.new.host) c.perform.new.work.log ok.sane.sound (ok.logged told honest) (ok.calm told honest calm) least before c.perform.new.work.database.commits after.enough after.counted
+    (held_telling (g.H.Host.files c.perform.new.host) (g.H.Host.history c.perform.new.host) c.perform.new.work.log.gated (ok.stands.log (still g at told)) ok.stands.epoch least before c.perform.new.work.database.commits after.enough after.counted
     c.perform.new.output rest m all telling)))
 
 -- and while what was gathered is handed over where the disk failed
-failed : (g : _) (c : After-hand_over g) → g.H.Source.tells → IsHonest (g.H.Host.standing c.args.host.now) → IsCalm (g.H.Host.history c.args.host.now) (g.H.Host.files c.args.host.now) c.args.work.now.log.gated → IsNamed c.args.item
+failed : (g : _) (c : After-hand_over g) → Told g.H.Source g.H.Host c.args.host.now → IsNamed c.args.item
     → (least : ℕ) (before : List ℕ) (rest : List (List ℕ)) → IsAcknowledging least before (g.H.Host.files c.args.host.now) (g.H.Host.written c.args.host.now) c.args.output.now c.args.work.now.database.commits
     → Since (IsHeld least (texts_in (g.H.Host.files c.args.host.now) ++ ((step_of c.args.item (state_of c.args.work.now)).texts ++ rest)) before) (g.H.Host.history c.args.host.now) (g.H.Host.history c.hand_over.new.host)
-failed g c told honest calm named least before rest t =
+failed g c told named least before rest t =
     let step = step_of c.args.item (state_of c.args.work.now) in
-    let unsaid = c.in-Err-DiskFault.ensures.unsaid (ap Err c.in-Err-DiskFault.field-0-is) in
-    let out = g.met.H.Host.output_now c.args.host.now told in
+    let stands = c.requires.stands in
+    let unsaid = c.in-Err-Disk.ensures.unsaid (ap Err c.in-Err-Disk.field-0-is) in
+    let out = g.met.H.Host.output_now c.args.host.now told.tells in
     let all = subst (λ (o : List ℕ). IsGathered before o c.args.output.now c.args.work.now.database.commits) (sym out) t.gathered in
-    since_join (done g (goal.at.After-hand_over g c).After-perform told honest calm named least before rest t)
-    (since_weaker (c.hand_over.ensures.moments told)
-    (λ m printed. held_failed (g.H.Host.files c.args.host.now) (g.H.Host.history c.args.host.now) c.args.work.now.log c.requires.whole.sound (c.requires.logged told honest) calm least before c.args.work.now.database.commits t.enough t.counted
-    c.args.output.now step.lines step.texts rest (g.H.Host.history c.perform.new.host).now m all
-    (g.met.H.Host.output_now c.perform.new.host told ∙ unsaid.1 ∙ sym out)
-    (since_now (c.perform.ensures.moments told honest calm))
-    (subst (λ (l : List ℕ). IsPrinted (g.H.Host.history c.perform.new.host).now l m) unsaid.0 printed)))
+    since_join (done g (goal.at.After-hand_over g c).After-perform told named least before rest t)
+    (since_weaker (c.hand_over.ensures.moments told.tells)
+    (λ m handing. held_failed (g.H.Host.files c.args.host.now) (g.H.Host.history c.args.host.now) c.args.work.now.log.gated (stands.log told) stands.epoch least before c.args.work.now.database.commits t.enough t.counted
+    c.args.output.now (printed step.lines) step.texts rest (g.H.Host.history c.perform.new.host).now m all
+    (g.met.H.Host.output_now c.perform.new.host told.tells ∙ unsaid.1 ∙ sym out)
+    (since_now (c.perform.ensures.moments told))
+    (subst (λ (l : List ℕ). IsHandedOver (g.H.Host.history c.perform.new.host).now l m) unsaid.0 handing)))
 
 pub returns-in-Err-clause-moments : goal.returns-in-Err-clause-moments
 returns-in-Err-clause-moments g c = done g (goal.at.returns-in-Err-clause-moments g c).After-perform
 
-pub returns-in_err-flush_when_large-in-Ok-clause-moments : goal.returns-in_err-flush_when_large-in-Ok-clause-moments
-returns-in_err-flush_when_large-in-Ok-clause-moments g c = handed g (goal.at.returns-in_err-flush_when_large-in-Ok-clause-moments g c).After-flush_when_large
+pub returns-in-Ok-clause-moments : goal.returns-in-Ok-clause-moments
+returns-in-Ok-clause-moments g c = handed g (goal.at.returns-in-Ok-clause-moments g c).After-flush_when_large
 
-pub returns-in_ok-flush_when_large-in-Ok-clause-moments : goal.returns-in_ok-flush_when_large-in-Ok-clause-moments
-returns-in_ok-flush_when_large-in-Ok-clause-moments g c = handed g (goal.at.returns-in_ok-flush_when_large-in-Ok-clause-moments g c).After-flush_when_large
+pub returns-in-Ok-clause-stands : goal.returns-in-Ok-clause-stands
+returns-in-Ok-clause-stands g c =
+    let after = stands_handed c.perform.new.work.log c.perform.new.work.database.commits c.perform.new.host c.flush_when_large.new.host c.flush_when_large.ensures.uses.standing c.flush_when_large.ensures.uses.files c.flush_when_large.ensures.moments c.in-Ok.ensures.stands in
+    any_ok c.flush_when_large.result after
 
-pub returns-in_ok-flush_when_large-in-Ok-clause-calm : goal.returns-in_ok-flush_when_large-in-Ok-clause-calm
-returns-in_ok-flush_when_large-in-Ok-clause-calm g c = λ told honest calm.
-    calm_told (g.H.Host.files c.perform.new.host) (g.H.Host.files c.flush_when_large.new.host) c.perform.new.work.log.gated (c.flush_when_large.ensures.moments told) c.flush_when_large.ensures.files (c.in-Ok.ensures.calm told honest calm)
-
-pub returns-in_ok-flush_when_large-in-Ok-clause-telling : goal.returns-in_ok-flush_when_large-in-Ok-clause-telling
-returns-in_ok-flush_when_large-in-Ok-clause-telling g c = λ told honest named least before t.
-    telling_handed least before (g.H.Host.files c.perform.new.host) (g.H.Host.files c.flush_when_large.new.host) (g.H.Host.written c.perform.new.host) (g.H.Host.written c.flush_when_large.new.host) c.perform.new.output c.flush_when_large.new.output c.perform.new.work.database.commits
-    c.flush_when_large.ensures.files (c.in_ok-flush_when_large-in-Ok.ensures.done told) (c.flush_when_large.ensures.front told).grown
-    (left g (goal.at.returns-in_ok-flush_when_large-in-Ok-clause-telling g c).After-flush_when_large told honest named least before t)
+pub returns-in-Ok-clause-telling : goal.returns-in-Ok-clause-telling
+returns-in-Ok-clause-telling g c = λ told named least before t.
+    ok_weaker c.flush_when_large.result
+    (λ done. telling_handed least before (g.H.Host.files c.perform.new.host) (g.H.Host.files c.flush_when_large.new.host) (g.H.Host.written c.perform.new.host) (g.H.Host.written c.flush_when_large.new.host) c.perform.new.output c.flush_when_large.new.output c.perform.new.work.database.commits
+    c.flush_when_large.ensures.uses.files done (c.flush_when_large.ensures.front told.tells).grown
+    (left g (goal.at.returns-in-Ok-clause-telling g c).After-flush_when_large told named least before t))
+    (c.flush_when_large.ensures.done told.tells)
 
 pub returns-in-Err-clause-alone : goal.returns-in-Err-clause-alone
-returns-in-Err-clause-alone g c = λ told honest calm. alone_stepping (c.perform.ensures.moments told honest calm)
+returns-in-Err-clause-alone g c = λ told. alone_stepping (c.perform.ensures.moments told)
 
-pub returns-in_err-flush_when_large-in-Ok-clause-alone : goal.returns-in_err-flush_when_large-in-Ok-clause-alone
-returns-in_err-flush_when_large-in-Ok-clause-alone g c = λ told honest calm.
-    alone_on (alone_stepping (c.perform.ensures.moments told honest calm)) (alone_printing (c.flush_when_large.ensures.moments told))
+pub returns-in-Ok-clause-alone : goal.returns-in-Ok-clause-alone
+returns-in-Ok-clause-alone g c = λ told. alone_on (alone_stepping (c.perform.ensures.moments told)) (alone_printing (c.flush_when_large.ensures.moments told.tells))
 
-pub returns-in_ok-flush_when_large-in-Ok-clause-alone : goal.returns-in_ok-flush_when_large-in-Ok-clause-alone
-returns-in_ok-flush_when_large-in-Ok-clause-alone g c = λ told honest calm.
-    alone_on (alone_stepping (c.perform.ensures.moments told honest calm)) (alone_printing (c.flush_when_large.ensures.moments told))
+pub returns-in-Ok-clause-uses : goal.returns-in-Ok-clause-uses
+returns-in-Ok-clause-uses g c = work_output c.perform.ensures.uses c.flush_when_large.ensures.uses
 
-pub returns-in-Err-DiskFault-clause-front : goal.returns-in-Err-DiskFault-clause-front
-returns-in-Err-DiskFault-clause-front g c = λ told.
-    let unsaid = c.in-Err-DiskFault.ensures.unsaid (ap Err c.in-Err-DiskFault.field-0-is) in
-    front_so_far (g.H.Host.written c.args.host.now) (g.H.Host.written c.perform.new.host) (g.H.Host.written c.hand_over.new.host) c.args.output.now c.perform.new.output (step_of c.args.item (state_of c.args.work.now)).lines
+pub returns-in-Ok-clause-stops : goal.returns-in-Ok-clause-stops
+returns-in-Ok-clause-stops g c =
+    stops_for (OutputStops g.H.Source g.H.Host c.perform.new.host c.flush_when_large.new.host) (WorkStops g.H.Source g.H.Host c.args.host.now c.flush_when_large.new.host) c.flush_when_large.result
+    (λ stop. output_work g.H.Source g.H.Host stop c.args.host.now c.perform.new.host c.flush_when_large.new.host c.flush_when_large.new.host c.perform.ensures.uses.output_later (omega arith)) c.flush_when_large.ensures.stops
+
+pub returns-in-Err-Disk-clause-uses : goal.returns-in-Err-Disk-clause-uses
+returns-in-Err-Disk-clause-uses g c = work_output c.perform.ensures.uses c.hand_over.ensures.uses
+
+pub returns-in-Err-Disk-clause-front : goal.returns-in-Err-Disk-clause-front
+returns-in-Err-Disk-clause-front g c = λ told.
+    let unsaid = c.in-Err-Disk.ensures.unsaid (ap Err c.in-Err-Disk.field-0-is) in
+    front_so_far (g.H.Host.written c.args.host.now) (g.H.Host.written c.perform.new.host) (g.H.Host.written c.hand_over.new.host) c.args.output.now c.perform.new.output (printed (step_of c.args.item (state_of c.args.work.now)).lines)
     unsaid.1 unsaid.0 (c.hand_over.ensures.front told)
 
-pub returns-in-Err-DiskFault-clause-moments : goal.returns-in-Err-DiskFault-clause-moments
-returns-in-Err-DiskFault-clause-moments g c = failed g (goal.at.returns-in-Err-DiskFault-clause-moments g c).After-hand_over
+pub returns-in-Err-Disk-clause-moments : goal.returns-in-Err-Disk-clause-moments
+returns-in-Err-Disk-clause-moments g c = failed g (goal.at.returns-in-Err-Disk-clause-moments g c).After-hand_over
 
-pub returns-in-Err-DiskFault-clause-alone : goal.returns-in-Err-DiskFault-clause-alone
-returns-in-Err-DiskFault-clause-alone g c = λ told honest calm.
-    alone_on (alone_stepping (c.perform.ensures.moments told honest calm)) (alone_printing (c.hand_over.ensures.moments told))
+pub returns-in-Err-Disk-clause-alone : goal.returns-in-Err-Disk-clause-alone
+returns-in-Err-Disk-clause-alone g c = λ told. alone_on (alone_stepping (c.perform.ensures.moments told)) (alone_printing (c.hand_over.ensures.moments told.tells))

@@ -1,10 +1,13 @@
-use Rattle.std.proofs.Common.{◌≡◌, ◌++◌, List, ℕ, map, Some, None, ap, subst, ◌∙◌}
+use Rattle.std.proofs.Common.{◌≡◌, ◌++◌, List, [], ◌∷◌, ℕ, length, map, Some, None, sym, ap, subst, ◌∙◌}
 use Rattle.hs_values.specs.declared.value.Value.{Value}
 use Rattle.hs_values.specs.Sorted.{sorted_rows}
-use Rattle.hs_top.specs.declared.reply.Reply.TheVariants.{Done}
-use Rattle.hs_top.specs.Lines.{rows_lines, reply_line, answer_lines}
+use Rattle.hs_machine.specs.Lines.{Line, OkOf, printed_line, printed}
+use Rattle.hs_machine.specs.Replies.{rows_lines}
+use Rattle.hs_machine.proofs.Lines.{printed-append, one_printed}
+use Rattle.hs_top.specs.Answers.{answer_lines}
 use Rattle.hs_top.specs.Machine.{WritesPrefix}
-use Rattle.hs_host.specs.Moments.{Since, IsPrinted}
+use Rattle.hs_host.specs.Moments.{Since}
+use Rattle.hs_top.specs.Holding.{IsHandedOver}
 use Rattle.hs_host.proofs.Passing.{since_none}
 use Rattle.hs_top.proofs.Holding.{told_and}
 use Rattle.hs_top.proofs.Prefixes.{front_more, nothing_yet, extended}
@@ -15,11 +18,19 @@ use Rattle.hs_top.proofs.answer.push_answer.Goals.{After-push_rows}
 in_order : (g : _) (c : After-push_rows g) → map (λ r. r.now) c.as_slice.result.now ≡ sorted_rows c.args.table.now.rows
 in_order g c = ap (map (λ r. r.now)) c.as_slice.ensures.value ∙ c.in_ok-rows.ensures
 
+answer_printed : (g : _) (c : After-push_rows g) → printed (answer_lines c.args.number c.args.session.now c.args.table.now)
+    ≡ printed (rows_lines c.args.number c.args.session.now (sorted_rows c.args.table.now.rows)) ++ printed_line (OkOf c.args.number c.args.session.now (Some (length c.args.table.now.rows)) None)
+answer_printed g c =
+    let rows : List Line = rows_lines c.args.number c.args.session.now (sorted_rows c.args.table.now.rows) in
+    let last : Line = OkOf c.args.number c.args.session.now (Some (length c.args.table.now.rows)) None in
+    printed-append rows (last ∷ []) ∙ ap (λ (l : List ℕ). printed rows ++ l) (one_printed last)
+
 front_of_rows : (g : _) (c : After-push_rows g) → g.H.Source.tells
-    → WritesPrefix (g.H.Host.written c.args.host.now) (g.H.Host.written c.push_rows.new.host) (c.args.output.now ++ answer_lines c.args.number c.args.session.now c.args.table.now)
+    → WritesPrefix (g.H.Host.written c.args.host.now) (g.H.Host.written c.push_rows.new.host) (c.args.output.now ++ printed (answer_lines c.args.number c.args.session.now c.args.table.now))
 front_of_rows g c told =
-    let Q : List (List Value) → Type 0 = λ rows. WritesPrefix (g.H.Host.written c.args.host.now) (g.H.Host.written c.push_rows.new.host) (c.args.output.now ++ rows_lines c.args.number c.args.session.now rows) in
-    front_more _ _ c.args.output.now _ _ (subst Q (in_order g c) (c.push_rows.ensures.front told))
+    let Q : List (List Value) → Type 0 = λ rows. WritesPrefix (g.H.Host.written c.args.host.now) (g.H.Host.written c.push_rows.new.host) (c.args.output.now ++ printed (rows_lines c.args.number c.args.session.now rows)) in
+    subst (λ (l : List ℕ). WritesPrefix (g.H.Host.written c.args.host.now) (g.H.Host.written c.push_rows.new.host) (c.args.output.now ++ l)) (sym (answer_printed g c))
+    (front_more _ _ c.args.output.now _ _ (subst Q (in_order g c) (c.push_rows.ensures.front told)))
 
 pub returns-in_err-rows-clause-front : goal.returns-in_err-rows-clause-front
 returns-in_err-rows-clause-front g c = λ told. nothing_yet _ _
@@ -35,15 +46,17 @@ returns-clause-front g c = front_of_rows g (goal.at.returns-clause-front g c).Af
 
 pub returns-clause-done : goal.returns-clause-done
 returns-clause-done g c = λ told.
-    let rows = ap (λ (rows : List (List Value)). g.H.Host.written c.args.host.now ++ (c.args.output.now ++ rows_lines c.args.number c.args.session.now rows)) (in_order g (goal.at.returns-clause-done g c).After-push_rows) in
-    let reply = ap (λ (n : ℕ). c.push_rows.new.output ++ reply_line c.args.number c.args.session.now (Done (Some n) None)) c.len.ensures in
-    extended (g.H.Host.written c.push_rows.new.host) c.push_rows.new.output c.push_reply.new.self (g.H.Host.written c.args.host.now) c.args.output.now (rows_lines c.args.number c.args.session.now (sorted_rows c.args.table.now.rows)) _ (c.in_ok-push_rows.ensures.done told ∙ rows) (c.in_ok-push_reply.ensures ∙ reply)
+    let rows = ap (λ (rows : List (List Value)). g.H.Host.written c.args.host.now ++ (c.args.output.now ++ printed (rows_lines c.args.number c.args.session.now rows))) (in_order g (goal.at.returns-clause-done g c).After-push_rows) in
+    let reply = ap (λ (n : ℕ). c.push_rows.new.output ++ printed_line (OkOf c.args.number c.args.session.now (Some n) None)) c.len.ensures in
+    extended (g.H.Host.written c.push_rows.new.host) c.push_rows.new.output c.push_reply.new.self (g.H.Host.written c.args.host.now) c.args.output.now (printed (rows_lines c.args.number c.args.session.now (sorted_rows c.args.table.now.rows))) _ (c.in_ok-push_rows.ensures.done told ∙ rows) (c.in_ok-push_reply.ensures ∙ reply)
+    ∙ sym (ap (λ (l : List ℕ). g.H.Host.written c.args.host.now ++ (c.args.output.now ++ l)) (answer_printed g (goal.at.returns-clause-done g c).After-push_rows))
 
 told_rows : (g : _) (c : After-push_rows g) → g.H.Source.tells
-    → Since (IsPrinted (g.H.Host.history c.args.host.now).now (c.args.output.now ++ answer_lines c.args.number c.args.session.now c.args.table.now)) (g.H.Host.history c.args.host.now) (g.H.Host.history c.push_rows.new.host)
+    → Since (IsHandedOver (g.H.Host.history c.args.host.now).now (c.args.output.now ++ printed (answer_lines c.args.number c.args.session.now c.args.table.now))) (g.H.Host.history c.args.host.now) (g.H.Host.history c.push_rows.new.host)
 told_rows g c told =
-    let Q : List (List Value) → Type 0 = λ rows. Since (IsPrinted (g.H.Host.history c.args.host.now).now (c.args.output.now ++ rows_lines c.args.number c.args.session.now rows)) (g.H.Host.history c.args.host.now) (g.H.Host.history c.push_rows.new.host) in
-    told_and c.args.output.now _ _ (subst Q (in_order g c) (c.push_rows.ensures.moments told))
+    let Q : List (List Value) → Type 0 = λ rows. Since (IsHandedOver (g.H.Host.history c.args.host.now).now (c.args.output.now ++ printed (rows_lines c.args.number c.args.session.now rows))) (g.H.Host.history c.args.host.now) (g.H.Host.history c.push_rows.new.host) in
+    subst (λ (l : List ℕ). Since (IsHandedOver (g.H.Host.history c.args.host.now).now (c.args.output.now ++ l)) (g.H.Host.history c.args.host.now) (g.H.Host.history c.push_rows.new.host)) (sym (answer_printed g c))
+    (told_and c.args.output.now _ _ (subst Q (in_order g c) (c.push_rows.ensures.moments told)))
 
 pub returns-in_err-rows-clause-moments : goal.returns-in_err-rows-clause-moments
 returns-in_err-rows-clause-moments g c = λ told. since_none _ _

@@ -1,8 +1,11 @@
-use Rattle.std.proofs.Common.{◌≡◌, ◌++◌, ◌+◌, List, drop, map, codes, ap, ◌∙◌, arith}
+use Rattle.std.proofs.Common.{◌≡◌, ◌++◌, ◌+◌, List, drop, map, ap, ◌∙◌, arith}
 use Rattle.hs_values.specs.declared.value.Value.{Value}
-use Rattle.hs_top.specs.Lines.{line, row_text, rows_lines}
+use Rattle.hs_machine.specs.Lines.{RowOf, printed_line, printed}
+use Rattle.hs_machine.specs.Replies.{rows_lines}
 use Rattle.hs_top.proofs.Prefixes.{front_on, gathered, handed}
-use Rattle.hs_host.specs.Moments.{Since, IsPrinted}
+use Rattle.hs_host.specs.Moments.{Since}
+use Rattle.hs_host.proofs.Used.{output_on}
+use Rattle.hs_top.specs.Holding.{IsHandedOver}
 use Rattle.hs_top.proofs.Holding.{told_join}
 use Rattle.hs_top.proofs.Rows.{rows_next}
 use Rattle.hs_top.proofs.answer.push_rows.Goals as goal
@@ -10,9 +13,9 @@ use Rattle.hs_top.proofs.answer.push_rows.Goals.{After-flush_when_large}
 
 -- with this row's line gathered
 left : (g : _) (c : After-flush_when_large g) → g.H.Source.tells
-    → g.H.Host.written c.loop-row.host ++ (c.push_row.new.self ++ rows_lines c.args.number c.args.session.now (map (λ r. r.now) (drop (c.loop-row.row-index + 1) c.args.rows.now)))
-    ≡ g.H.Host.written c.args.host.now ++ (c.args.output.now ++ rows_lines c.args.number c.args.session.now (map (λ r. r.now) c.args.rows.now))
-left g c told = gathered (g.H.Host.written c.loop-row.host) c.loop-row.output c.push_row.new.self _ _ _ _ (c.loop-row.invariant.so_far told) (c.in_ok-push_row.ensures ∙ ap (λ (r : List Value). c.loop-row.output ++ line c.args.number c.args.session.now (codes "row " ++ row_text r)) c.as_slice.ensures)
+    → g.H.Host.written c.loop-row.host ++ (c.push_row.new.self ++ printed (rows_lines c.args.number c.args.session.now (map (λ r. r.now) (drop (c.loop-row.row-index + 1) c.args.rows.now))))
+    ≡ g.H.Host.written c.args.host.now ++ (c.args.output.now ++ printed (rows_lines c.args.number c.args.session.now (map (λ r. r.now) c.args.rows.now)))
+left g c told = gathered (g.H.Host.written c.loop-row.host) c.loop-row.output c.push_row.new.self _ _ _ _ (c.loop-row.invariant.so_far told) (c.in_ok-push_row.ensures ∙ ap (λ (r : List Value). c.loop-row.output ++ printed_line (RowOf c.args.number c.args.session.now r)) c.as_slice.ensures)
     (rows_next (λ r. r.now) c.args.rows.now c.loop-row.row-index c.row-item.result c.args.number c.args.session.now c.loop-row-test.true c.row-item.is)
 
 pub returns-in_err-flush_when_large-clause-front : goal.returns-in_err-flush_when_large-clause-front
@@ -21,7 +24,7 @@ returns-in_err-flush_when_large-clause-front g c = λ told.
 
 -- the moments of this row
 on : (g : _) (c : After-flush_when_large g) → g.H.Source.tells
-    → Since (IsPrinted (g.H.Host.history c.args.host.now).now (c.args.output.now ++ rows_lines c.args.number c.args.session.now (map (λ r. r.now) c.args.rows.now))) (g.H.Host.history c.args.host.now) (g.H.Host.history c.flush_when_large.new.host)
+    → Since (IsHandedOver (g.H.Host.history c.args.host.now).now (c.args.output.now ++ printed (rows_lines c.args.number c.args.session.now (map (λ r. r.now) c.args.rows.now)))) (g.H.Host.history c.args.host.now) (g.H.Host.history c.flush_when_large.new.host)
 on g c told =
     told_join (g.H.Host.written c.args.host.now) (g.H.Host.written c.loop-row.host) c.push_row.new.self _ _
     (g.met.H.Host.output_now c.args.host.now told) (g.met.H.Host.output_now c.loop-row.host told) (c.loop-row.invariant.moments told) (left g c told) (c.loop-row.invariant.grown told) (c.flush_when_large.ensures.moments told)
@@ -34,10 +37,5 @@ loop-row-preserved g c = record {
   so_far = λ told. handed (g.H.Host.written c.loop-row.host) c.push_row.new.self (g.H.Host.written c.flush_when_large.new.host) c.flush_when_large.new.output _ _ (c.in_ok-flush_when_large.ensures.done told) (left g (goal.at.loop-row-preserved g c).After-flush_when_large told);
   grown = λ told. omega (arith, c.loop-row.invariant.grown told, (c.flush_when_large.ensures.front told).grown);
   moments = on g (goal.at.loop-row-preserved g c).After-flush_when_large;
-  later = omega (arith, c.flush_when_large.ensures.output_later, c.loop-row.invariant.later);
-  unread = c.flush_when_large.ensures.unread ∙ c.loop-row.invariant.unread;
-  faults = c.flush_when_large.ensures.input_faults ∙ c.loop-row.invariant.faults;
-  files = c.flush_when_large.ensures.files ∙ c.loop-row.invariant.files;
-  standing = c.flush_when_large.ensures.standing ∙ c.loop-row.invariant.standing;
-  disk_faults = c.flush_when_large.ensures.disk_faults ∙ c.loop-row.invariant.disk_faults;
+  uses = output_on c.loop-row.invariant.uses c.flush_when_large.ensures.uses;
 }

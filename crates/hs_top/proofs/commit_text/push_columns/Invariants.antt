@@ -1,5 +1,5 @@
 use Rattle.std.proofs.Common.{◌≡◌, ◌++◌, length, codes}
-use Rattle.hs_top.specs.Lines.{joined}
+use Rattle.hs_machine.specs.Values.{joined}
 use Rattle.hs_top.specs.Spelling.{column_text}
 use Rattle.hs_top.proofs.commit_text.push_columns.Given as goal
 

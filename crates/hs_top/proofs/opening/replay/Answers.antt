@@ -1,27 +1,23 @@
 use Rattle.std.proofs.Common.{rules}
-use Rattle.hs_host.specs.Files.{IsHonest}
-use Rattle.hs_gate.proofs.Moments.{still_on}
+use Rattle.hs_host.specs.Used.{Told, ReadsFiles}
+use Rattle.hs_host.proofs.Used.{told_on, reads_on}
 use Rattle.hs_top.proofs.opening.replay.Goals as goal
+use Rattle.hs_top.proofs.opening.replay.Goals.{After-next_part}
 
-pub returns-in_err-part-clause-moments : goal.returns-in_err-part-clause-moments
-returns-in_err-part-clause-moments g c = λ told honest.
-    let later : IsHonest (g.H.Host.standing c.loop-opening.host) = rw c.loop-opening.invariant.standing honest in
-    still_on (c.loop-opening.invariant.moments told honest) (c.next_part.ensures.moments told later)
+reads : (g : _) (c : After-next_part g) → ReadsFiles g.H.Source g.H.Host c.args.host.now c.next_part.new.host
+reads g c = reads_on c.loop-opening.invariant.reads c.next_part.ensures.reads
 
-pub returns-in_err-redo-clause-moments : goal.returns-in_err-redo-clause-moments
-returns-in_err-redo-clause-moments g c = λ told honest.
-    let later : IsHonest (g.H.Host.standing c.loop-opening.host) = rw c.loop-opening.invariant.standing honest in
-    still_on (c.loop-opening.invariant.moments told honest) (c.next_part.ensures.moments told later)
+pub returns-in_err-part-clause-reads : goal.returns-in_err-part-clause-reads
+returns-in_err-part-clause-reads g c = reads g (goal.at.returns-in_err-part-clause-reads g c).After-next_part
 
-pub returns-then-not-branch-clause-moments : goal.returns-then-not-branch-clause-moments
-returns-then-not-branch-clause-moments g c = λ told honest.
-    let later : IsHonest (g.H.Host.standing c.loop-opening.host) = rw c.loop-opening.invariant.standing honest in
-    still_on (c.loop-opening.invariant.moments told honest) (c.next_part.ensures.moments told later)
+pub returns-in_err-redo-clause-reads : goal.returns-in_err-redo-clause-reads
+returns-in_err-redo-clause-reads g c = reads g (goal.at.returns-in_err-redo-clause-reads g c).After-next_part
 
-pub returns-clause-moments : goal.returns-clause-moments
-returns-clause-moments g c = λ told honest.
-    let later : IsHonest (g.H.Host.standing c.loop-opening.host) = rw c.loop-opening.invariant.standing honest in
-    still_on (c.loop-opening.invariant.moments told honest) (c.next_part.ensures.moments told later)
+pub returns-then-not-branch-clause-reads : goal.returns-then-not-branch-clause-reads
+returns-then-not-branch-clause-reads g c = reads g (goal.at.returns-then-not-branch-clause-reads g c).After-next_part
+
+pub returns-clause-reads : goal.returns-clause-reads
+returns-clause-reads g c = reads g (goal.at.returns-clause-reads g c).After-next_part
 
 pub loop-opening-preserved : goal.loop-opening-preserved
 loop-opening-preserved g c =
@@ -29,16 +25,7 @@ loop-opening-preserved g c =
       gated = search rules;
       within = search rules;
       room = search rules;
-      place = search rules;
-      so_far = search rules;
-      files = search rules;
-      moments = λ told honest.
-          let later : IsHonest (g.H.Host.standing c.loop-opening.host) = rw c.loop-opening.invariant.standing honest in
-          still_on (c.loop-opening.invariant.moments told honest) (c.next_part.ensures.moments told later);
-      disk_later = search rules;
-      standing = search rules;
-      unread = search rules;
-      input_faults = search rules;
-      written = search rules;
-      output_faults = search rules;
+      place = λ told. let later : Told g.H.Source g.H.Host c.loop-opening.host = told_on c.loop-opening.invariant.reads.uses told in search rules;
+      so_far = λ told. let later : Told g.H.Source g.H.Host c.loop-opening.host = told_on c.loop-opening.invariant.reads.uses told in search rules;
+      reads = reads g (goal.at.loop-opening-preserved g c).After-next_part;
     }

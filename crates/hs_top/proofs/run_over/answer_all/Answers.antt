@@ -1,47 +1,44 @@
-use Rattle.std.proofs.Common.{◌≡◌, ◌++◌, ◌^◌, List, [], ◌∷◌, ℕ, length, take, refl, sym, ap, subst, ◌∙◌, arith, append-nil}
+use Rattle.std.proofs.Common.{◌≡◌, ◌++◌, ◌^◌, List, [], ℕ, length, take, refl, sym, ap, subst, ◌∙◌, arith, append-nil}
 use Rattle.hs_host.specs.Files.{Five, IsHonest, with_}
+use Rattle.hs_host.specs.declared.file_kind.FileKind.TheVariants.{Log}
+use Rattle.hs_host.specs.Moments.{Since}
+use Rattle.hs_host.specs.Used.{Told}
+use Rattle.hs_host.proofs.Passing.{since_none, since_weaker, since_join}
+use Rattle.hs_host.proofs.Used.{all_on, output_all}
 use Rattle.hs_entries.specs.declared.item.Item.{Item}
 use Rattle.hs_entries.specs.Items.{items, whole_items}
 use Rattle.hs_entries.specs.Reader.{left_items, left_whole}
-use Rattle.hs_top.specs.Lines.{opened_line}
-use Rattle.hs_top.specs.Machine.{State, WritesPrefix, machine, transcript, rest_of, lines_of, texts_of}
-use Rattle.hs_top.specs.Opening.{opened_by, begun_with, texts_from, IsWholeLog}
-use Rattle.hs_host.specs.declared.file_kind.FileKind.TheVariants.{Log}
-use Rattle.hs_top.specs.Running.{machine_of, state_of, texts_in, IsTooLong}
-use Rattle.hs_host.specs.Moments.{Since}
-use Rattle.hs_host.proofs.Passing.{since_none, since_weaker, since_join}
+use Rattle.hs_machine.specs.Lines.{OpenedAt, printed_line}
 use Rattle.hs_top.specs.Crash.{IsLogAlone}
 use Rattle.hs_top.specs.Holding.{IsHeld, IsGathered}
+use Rattle.hs_top.specs.Machine.{State, WritesPrefix, machine, transcript, rest_of, lines_of, texts_of}
+use Rattle.hs_top.specs.Opening.{opened_by, begun_with, texts_from, IsWholeLog}
+use Rattle.hs_top.specs.Running.{machine_of, state_of, texts_in, IsTooLong}
 use Rattle.hs_top.proofs.Alone.{alone_printing, alone_on}
 use Rattle.hs_top.proofs.Holding.{first_gathered, last_gathered, held_telling}
-use Rattle.hs_top.proofs.Prefixes.{nothing_yet, front_after}
 use Rattle.hs_top.proofs.Logged.{whole_log}
+use Rattle.hs_top.proofs.Prefixes.{nothing_yet, front_after}
 use Rattle.hs_top.proofs.Runs.{rest_of-over, texts_of-over}
-use Rattle.hs_top.proofs.Taken.{fresh_items, fresh_whole}
+use Rattle.hs_top.proofs.Taken.{fresh_items, fresh_whole, fresh_input, over_input, begun_not_ended, none_left}
 use Rattle.hs_top.proofs.Turns.{ended}
 use Rattle.hs_top.proofs.run_over.answer_all.Goals as goal
 use Rattle.hs_top.proofs.run_over.answer_all.Goals.{After-new-2, After-turn, After-flush}
-
--- nothing stands behind what is nothing
-nothing_behind : (xs ys : List ℕ) → xs ++ ys ≡ [] → ys ≡ []
-nothing_behind [] ys is = is
-nothing_behind (x ∷ xs) ys is = absurd (cc)
 
 pub returns-in_err-push_opened-clause-front : goal.returns-in_err-push_opened-clause-front
 returns-in_err-push_opened-clause-front g c = λ told. nothing_yet _ _
 
 -- the first line is gathered, nothing is read, and there is no session
-first_line : (g : _) (c : After-new-2 g) → c.push_opened.new.self ≡ opened_line c.args.opening.database.commits
-first_line g c = c.in_ok-push_opened.ensures ∙ ap (λ (l : List ℕ). l ++ opened_line c.args.opening.database.commits) c.new-output.ensures
+first_line : (g : _) (c : After-new-2 g) → c.push_opened.new.self ≡ printed_line (OpenedAt c.args.opening.database.commits)
+first_line g c = c.in_ok-push_opened.ensures ∙ ap (λ (l : List ℕ). l ++ printed_line (OpenedAt c.args.opening.database.commits)) c.new-output.ensures
 
 first_state : (g : _) (c : After-new-2 g) → state_of (record { sessions = c.new-2.result; database = c.args.opening.database; log = c.args.opening.log; text = [] }) ≡ begun_with (opened_by c.args.opening)
 first_state g c = ap (λ (names : List (List ℕ)). record { sessions = names; last = c.args.opening.log.last; database = c.args.opening.database }) c.new-2.ensures
 
 first_items : (g : _) (c : After-new-2 g) → left_items c.new.result (g.H.Source.unread c.args.host.now) ≡ items 1 (g.H.Source.unread c.args.host.now)
-first_items g c = fresh_items c.new.result _ c.new.ensures.ahead c.new.ensures.number
+first_items g c = fresh_items c.new.result _ c.new.ensures.ended c.new.ensures.ahead c.new.ensures.number
 
 first_whole : (g : _) (c : After-new-2 g) → left_whole c.new.result (g.H.Source.unread c.args.host.now) ≡ whole_items 1 (take (2 ^ 30) (g.H.Source.unread c.args.host.now))
-first_whole g c = fresh_whole c.new.result _ (2 ^ 30) c.new.ensures.ahead c.new.ensures.number c.new.ensures.room
+first_whole g c = fresh_whole c.new.result _ (2 ^ 30) c.new.ensures.ended c.new.ensures.ahead c.new.ensures.number c.new.ensures.room
 
 pub loop-running-init : goal.loop-running-init
 loop-running-init g c =
@@ -51,43 +48,44 @@ loop-running-init g c =
     let work = state_of (record { sessions = c.new-2.result; database = c.args.opening.database; log = c.args.opening.log; text = [] }) in
     let texts = texts_in (g.H.Host.files c.args.host.now) in
     record {
-      sane = record { reader = c.new.ensures.kept; work = record { sound = c.requires.sound; room = c.requires.room } };
+      sane = record { reader = c.new.ensures.kept; agrees = λ told ended. absurd (begun_not_ended c.new.result c.new.ensures.ended ended); stands = c.requires.stands };
       so_far = λ told.
           ap (λ (o : List ℕ). written ++ (o ++ rest_of (machine (left_items c.new.result unread) work))) (first_line g at)
-          ∙ ap (λ (is : List Item). written ++ (opened_line c.args.opening.database.commits ++ rest_of (machine is work))) (first_items g at)
-          ∙ ap (λ (s : State). written ++ (opened_line c.args.opening.database.commits ++ rest_of (machine (items 1 unread) s))) (first_state g at);
+          ∙ ap (λ (is : List Item). written ++ (printed_line (OpenedAt c.args.opening.database.commits) ++ rest_of (machine is work))) (first_items g at)
+          ∙ ap (λ (s : State). written ++ (printed_line (OpenedAt c.args.opening.database.commits) ++ rest_of (machine (items 1 unread) s))) (first_state g at);
       within = λ told more.
           ap (λ (o : List ℕ). written ++ (o ++ lines_of (machine (left_whole c.new.result unread) work))) (first_line g at)
-          ∙ ap (λ (is : List Item). written ++ (opened_line c.args.opening.database.commits ++ lines_of (machine is work))) (first_whole g at)
-          ∙ ap (λ (s : State). written ++ (opened_line c.args.opening.database.commits ++ lines_of (machine (whole_items 1 (take (2 ^ 30) unread)) s))) (first_state g at);
-      texts = λ told honest.
+          ∙ ap (λ (is : List Item). written ++ (printed_line (OpenedAt c.args.opening.database.commits) ++ lines_of (machine is work))) (first_whole g at)
+          ∙ ap (λ (s : State). written ++ (printed_line (OpenedAt c.args.opening.database.commits) ++ lines_of (machine (whole_items 1 (take (2 ^ 30) unread)) s))) (first_state g at);
+      texts = λ told.
           ap (λ (is : List Item). texts ++ texts_of (machine is work)) (first_items g at)
           ∙ ap (λ (s : State). texts ++ texts_of (machine (items 1 unread) s)) (first_state g at);
-      logged = c.requires.logged;
-      calm = c.requires.calm;
-      telling = λ told honest. record {
+      telling = λ told. record {
         enough = omega arith;
-        counted = c.requires.counted told honest;
+        counted = c.requires.counted told;
         gathered = first_gathered written c.push_opened.new.self c.args.opening.database.commits c.args.opening.database.commits (first_line g at);
       };
-      moments = λ told honest. since_none _ _;
-      alone = λ told honest. since_none _ _;
-      others = λ told honest. refl;
+      moments = λ told. since_none _ _;
+      alone = λ told. since_none _ _;
+      others = λ told. refl;
       grown = λ told. omega arith;
-      count = λ told. omega (arith, c.new.ensures.room, ap length (ap (λ (l : List ℕ). l ++ unread) c.new.ensures.ahead));
-      in_later = omega arith;
-      out_later = omega arith;
-      disk_later = omega arith;
-      standing = refl;
+      count = λ told. omega (arith, c.new.ensures.room, ap length (fresh_input c.new.result unread c.new.ensures.ended c.new.ensures.ahead));
+      uses = record { standing = refl; input_later = omega arith; output_later = omega arith; disk_later = omega arith };
     }
 
+told_turn : (g : _) (c : After-turn g) → Told g.H.Source g.H.Host c.args.host.now → Told g.H.Source g.H.Host c.loop-running.host
+told_turn g c t = record { tells = t.tells; honest = subst IsHonest (sym c.loop-running.invariant.uses.standing) t.honest }
+
 -- all that is gathered at the end is all that is left
+over : (g : _) (c : After-flush g) → left_items c.turn.new.self.reader (g.H.Source.unread c.turn.new.host) ≡ []
+over g c = let end = c.in_ok-turn.ensures.more.end c.if-branch.false in none_left c.turn.new.self.reader (g.H.Source.unread c.turn.new.host) end.0 end.1
+
 whole : (g : _) (c : After-flush g) → g.H.Source.tells
     → g.H.Host.written c.turn.new.host ++ c.push_closed.new.self ≡ g.H.Host.written c.args.host.now ++ transcript (begun_with (opened_by c.args.opening)) (g.H.Source.unread c.args.host.now)
 whole g c told =
     ended (g.H.Host.written c.turn.new.host) c.turn.new.self.output c.push_closed.new.self (rest_of (machine_of c.turn.new.self (g.H.Source.unread c.turn.new.host))) _ _
-    (c.in_ok-turn.ensures.done told ∙ c.loop-running.invariant.so_far told)
-    (rest_of-over _ (state_of c.turn.new.self.work) (c.in_ok-turn.ensures.over told c.if-branch.false))
+    (c.in_ok-turn.ensures.goes_on.lines told ∙ c.loop-running.invariant.so_far told)
+    (rest_of-over _ (state_of c.turn.new.self.work) (over g c))
     c.in_ok-push_closed.ensures
 
 front_of_whole : (g : _) (c : After-flush g) → g.H.Source.tells
@@ -106,62 +104,66 @@ pub returns-clause-done : goal.returns-clause-done
 returns-clause-done g c = λ told. c.in_ok-flush.ensures.done told ∙ whole g (goal.at.returns-clause-done g c).After-flush told
 
 pub returns-clause-read : goal.returns-clause-read
-returns-clause-read g c = λ told. c.flush.ensures.unread ∙ nothing_behind _ _ (c.in_ok-turn.ensures.end told c.if-branch.false)
+returns-clause-read g c = λ told.
+    let end = c.in_ok-turn.ensures.more.end c.if-branch.false in
+    let none = ap length (over_input c.turn.new.self.reader (g.H.Source.unread c.turn.new.host) end.0 end.1) in (
+      c.flush.ensures.uses.unread ∙ c.in_ok-turn.ensures.sane.agrees told end.0,
+      omega (arith, c.loop-running.invariant.count told, c.in_ok-turn.ensures.goes_on.count told, none),
+    )
 
 pub returns-clause-log : goal.returns-clause-log
-returns-clause-log g c = λ told honest.
-    let still : IsHonest (g.H.Host.standing c.loop-running.host) = subst IsHonest (sym c.loop-running.invariant.standing) honest in
-    let over = texts_of-over _ (state_of c.turn.new.self.work) (c.in_ok-turn.ensures.over told c.if-branch.false) in
-    let all = sym (append-nil (texts_in (g.H.Host.files c.turn.new.host))) ∙ sym (ap (λ (l : List (List ℕ)). texts_in (g.H.Host.files c.turn.new.host) ++ l) over)
-    ∙ c.in_ok-turn.ensures.texts told still ∙ c.loop-running.invariant.texts told honest in
-    let at_turn = subst (IsWholeLog (g.H.Host.files c.turn.new.host).log) all (whole_log (g.H.Host.files c.turn.new.host) c.turn.new.self.work.log c.in_ok-turn.ensures.sane.work.sound (c.in_ok-turn.ensures.logged told still)) in
-    subst (λ (f : Five (List ℕ)). IsWholeLog f.log (texts_in (g.H.Host.files c.args.host.now) ++ texts_from (opened_by c.args.opening) (g.H.Source.unread c.args.host.now))) (sym c.flush.ensures.files) at_turn
+returns-clause-log g c = λ told.
+    let i = c.loop-running.invariant in
+    let ok = c.in_ok-turn.ensures in
+    let at = (goal.at.returns-clause-log g c).After-flush in
+    let still = told_turn g (goal.at.After-flush g at).After-turn told in
+    let after : Told g.H.Source g.H.Host c.turn.new.host = record { tells = told.tells; honest = subst IsHonest (sym c.turn.ensures.uses.standing) still.honest } in
+    let none = texts_of-over _ (state_of c.turn.new.self.work) (over g at) in
+    let all = sym (append-nil (texts_in (g.H.Host.files c.turn.new.host))) ∙ sym (ap (λ (l : List (List ℕ)). texts_in (g.H.Host.files c.turn.new.host) ++ l) none)
+    ∙ ok.goes_on.texts still ∙ i.texts told in
+    let at_turn = subst (IsWholeLog (g.H.Host.files c.turn.new.host).log) all (whole_log (g.H.Host.files c.turn.new.host) (g.H.Host.history c.turn.new.host) c.turn.new.self.work.log.gated (ok.sane.stands.log after) ok.sane.stands.epoch) in
+    subst (λ (f : Five (List ℕ)). IsWholeLog f.log (texts_in (g.H.Host.files c.args.host.now) ++ texts_from (opened_by c.args.opening) (g.H.Source.unread c.args.host.now))) (sym c.flush.ensures.uses.files) at_turn
 
 -- the moments of one turn more
-turned : (g : _) (c : After-turn g) → g.H.Source.tells → IsHonest (g.H.Host.standing c.args.host.now)
+turned : (g : _) (c : After-turn g) → Told g.H.Source g.H.Host c.args.host.now
     → Since (IsHeld (length (texts_in (g.H.Host.files c.args.host.now))) (texts_in (g.H.Host.files c.args.host.now) ++ texts_from (opened_by c.args.opening) (g.H.Source.unread c.args.host.now)) (g.H.Host.written c.args.host.now))
     (g.H.Host.history c.args.host.now) (g.H.Host.history c.turn.new.host)
-turned g c told honest =
+turned g c told =
     let i = c.loop-running.invariant in
-    let still : IsHonest (g.H.Host.standing c.loop-running.host) = subst IsHonest (sym i.standing) honest in
-    since_join (i.moments told honest)
-    (subst (λ (ts : List (List ℕ)). Since (IsHeld (length (texts_in (g.H.Host.files c.args.host.now))) ts (g.H.Host.written c.args.host.now)) (g.H.Host.history c.loop-running.host) (g.H.Host.history c.turn.new.host)) (i.texts told honest)
-    (c.turn.ensures.moments told still (i.calm told honest) _ _ (i.telling told honest)))
+    since_join (i.moments told)
+    (subst (λ (ts : List (List ℕ)). Since (IsHeld (length (texts_in (g.H.Host.files c.args.host.now))) ts (g.H.Host.written c.args.host.now)) (g.H.Host.history c.loop-running.host) (g.H.Host.history c.turn.new.host)) (i.texts told)
+    (c.turn.ensures.moments (told_turn g c told) _ _ (i.telling told)))
 
 -- and until the last line is handed over
-ended_moments : (g : _) (c : After-flush g) → g.H.Source.tells → IsHonest (g.H.Host.standing c.args.host.now)
+ended_moments : (g : _) (c : After-flush g) → Told g.H.Source g.H.Host c.args.host.now
     → Since (IsHeld (length (texts_in (g.H.Host.files c.args.host.now))) (texts_in (g.H.Host.files c.args.host.now) ++ texts_from (opened_by c.args.opening) (g.H.Source.unread c.args.host.now)) (g.H.Host.written c.args.host.now))
     (g.H.Host.history c.args.host.now) (g.H.Host.history c.flush.new.host)
-ended_moments g c told honest =
+ended_moments g c told =
     let i = c.loop-running.invariant in
     let ok = c.in_ok-turn.ensures in
     let least = length (texts_in (g.H.Host.files c.args.host.now)) in
     let before = g.H.Host.written c.args.host.now in
     let work = c.turn.new.self.work in
     let files = g.H.Host.files c.turn.new.host in
-    let still : IsHonest (g.H.Host.standing c.loop-running.host) = subst IsHonest (sym i.standing) honest in
-    let t = ok.telling told still least before (i.telling told honest) in
-    let over = texts_of-over _ (state_of work) (ok.over told c.if-branch.false) in
+    let still = told_turn g (goal.at.After-flush g c).After-turn told in
+    let after : Told g.H.Source g.H.Host c.turn.new.host = record { tells = told.tells; honest = subst IsHonest (sym c.turn.ensures.uses.standing) still.honest } in
+    let t = ok.telling still least before (i.telling told) in
+    let none = texts_of-over _ (state_of work) (over g c) in
     let texts : texts_in files ++ [] ≡ texts_in (g.H.Host.files c.args.host.now) ++ texts_from (opened_by c.args.opening) (g.H.Source.unread c.args.host.now) =
-    sym (ap (λ (l : List (List ℕ)). texts_in files ++ l) over) ∙ ok.texts told still ∙ i.texts told honest in
-    let out = sym (g.met.H.Host.output_now c.turn.new.host told) in
+    sym (ap (λ (l : List (List ℕ)). texts_in files ++ l) none) ∙ ok.goes_on.texts still ∙ i.texts told in
+    let out = sym (g.met.H.Host.output_now c.turn.new.host told.tells) in
     let all = subst (λ (o : List ℕ). IsGathered before o c.push_closed.new.self work.database.commits) out (last_gathered before _ c.turn.new.self.output c.push_closed.new.self work.database.commits work.database.commits c.in_ok-push_closed.ensures t.gathered) in
-    since_join (turned g (goal.at.After-flush g c).After-turn told honest)
-    (since_weaker (c.flush.ensures.moments told)
+    since_join (turned g (goal.at.After-flush g c).After-turn told)
+    (since_weaker (c.flush.ensures.moments told.tells)
     (λ m telling. subst (λ (ts : List (List ℕ)). IsHeld least ts before m) texts
-    (held_telling files (g.H.Host.history c.turn.new.host) work.log ok.sane.work.sound (ok.logged told still) (ok.calm told still (i.calm told honest)) least before work.database.commits t.enough t.counted c.push_closed.new.self [] m all telling)))
+    (held_telling files (g.H.Host.history c.turn.new.host) work.log.gated (ok.sane.stands.log after) ok.sane.stands.epoch least before work.database.commits t.enough t.counted c.push_closed.new.self [] m all telling)))
 
 -- what is touched until then
-turned_alone : (g : _) (c : After-turn g) → g.H.Source.tells → IsHonest (g.H.Host.standing c.args.host.now)
-    → Since (IsLogAlone (g.H.Host.history c.args.host.now).now) (g.H.Host.history c.args.host.now) (g.H.Host.history c.turn.new.host)
-turned_alone g c told honest =
-    let i = c.loop-running.invariant in
-    let still : IsHonest (g.H.Host.standing c.loop-running.host) = subst IsHonest (sym i.standing) honest in
-    alone_on (i.alone told honest) (c.turn.ensures.alone told still (i.calm told honest))
+turned_alone : (g : _) (c : After-turn g) → Told g.H.Source g.H.Host c.args.host.now → Since (IsLogAlone (g.H.Host.history c.args.host.now).now) (g.H.Host.history c.args.host.now) (g.H.Host.history c.turn.new.host)
+turned_alone g c told = alone_on (c.loop-running.invariant.alone told) (c.turn.ensures.alone (told_turn g c told))
 
-ended_alone : (g : _) (c : After-flush g) → g.H.Source.tells → IsHonest (g.H.Host.standing c.args.host.now)
-    → Since (IsLogAlone (g.H.Host.history c.args.host.now).now) (g.H.Host.history c.args.host.now) (g.H.Host.history c.flush.new.host)
-ended_alone g c told honest = alone_on (turned_alone g (goal.at.After-flush g c).After-turn told honest) (alone_printing (c.flush.ensures.moments told))
+ended_alone : (g : _) (c : After-flush g) → Told g.H.Source g.H.Host c.args.host.now → Since (IsLogAlone (g.H.Host.history c.args.host.now).now) (g.H.Host.history c.args.host.now) (g.H.Host.history c.flush.new.host)
+ended_alone g c told = alone_on (turned_alone g (goal.at.After-flush g c).After-turn told) (alone_printing (c.flush.ensures.moments told.tells))
 
 pub returns-in_err-turn-clause-alone : goal.returns-in_err-turn-clause-alone
 returns-in_err-turn-clause-alone g c = turned_alone g (goal.at.returns-in_err-turn-clause-alone g c).After-turn
@@ -191,22 +193,29 @@ pub loop-running-preserved : goal.loop-running-preserved
 loop-running-preserved g c =
     let i = c.loop-running.invariant in
     let ok = c.in_ok-turn.ensures in
-    let still : IsHonest (g.H.Host.standing c.args.host.now) → IsHonest (g.H.Host.standing c.loop-running.host) = λ honest. subst IsHonest (sym i.standing) honest in
+    let at = (goal.at.loop-running-preserved g c).After-turn in
     record {
       sane = ok.sane;
-      so_far = λ told. ok.done told ∙ i.so_far told;
-      within = λ told more. let before : IsTooLong c.loop-running.running (g.H.Source.unread c.loop-running.host) = omega (arith, more, ok.count told) in ok.within told before ∙ i.within told before;
-      texts = λ told honest. ok.texts told (still honest) ∙ i.texts told honest;
-      logged = λ told honest. ok.logged told (still honest);
-      calm = λ told honest. ok.calm told (still honest) (i.calm told honest);
-      telling = λ told honest. ok.telling told (still honest) _ _ (i.telling told honest);
-      moments = turned g (goal.at.loop-running-preserved g c).After-turn;
-      alone = turned_alone g (goal.at.loop-running-preserved g c).After-turn;
-      others = λ told honest. c.turn.ensures.others told (still honest) ∙ ap (λ (f : Five (List ℕ)). with_ f Log (g.H.Host.files c.turn.new.host).log) (i.others told honest);
+      so_far = λ told. ok.goes_on.lines told ∙ i.so_far told;
+      within = λ told more. let before : IsTooLong c.loop-running.running (g.H.Source.unread c.loop-running.host) = omega (arith, more, ok.goes_on.count told) in ok.goes_on.within told before ∙ i.within told before;
+      texts = λ told. ok.goes_on.texts (told_turn g at told) ∙ i.texts told;
+      telling = λ told. ok.telling (told_turn g at told) _ _ (i.telling told);
+      moments = turned g at;
+      alone = turned_alone g at;
+      others = λ told. c.turn.ensures.others (told_turn g at told) ∙ ap (λ (f : Five (List ℕ)). with_ f Log (g.H.Host.files c.turn.new.host).log) (i.others told);
       grown = λ told. omega (arith, i.grown told, (c.turn.ensures.front told).grown);
-      count = λ told. omega (arith, i.count told, ok.count told);
-      in_later = omega (arith, i.in_later, c.turn.ensures.input_later);
-      out_later = omega (arith, i.out_later, c.turn.ensures.output_later);
-      disk_later = omega (arith, i.disk_later, c.turn.ensures.disk_later);
-      standing = c.turn.ensures.standing ∙ i.standing;
+      count = λ told. omega (arith, i.count told, ok.goes_on.count told);
+      uses = all_on i.uses c.turn.ensures.uses;
     }
+
+pub returns-in_err-flush-clause-uses : goal.returns-in_err-flush-clause-uses
+returns-in_err-flush-clause-uses g c = all_on (all_on c.loop-running.invariant.uses c.turn.ensures.uses) (output_all c.flush.ensures.uses)
+
+pub returns-clause-uses : goal.returns-clause-uses
+returns-clause-uses g c = all_on (all_on c.loop-running.invariant.uses c.turn.ensures.uses) (output_all c.flush.ensures.uses)
+
+pub returns-in_err-turn-clause-uses : goal.returns-in_err-turn-clause-uses
+returns-in_err-turn-clause-uses g c = all_on c.loop-running.invariant.uses c.turn.ensures.uses
+
+pub returns-in_err-push_closed-clause-uses : goal.returns-in_err-push_closed-clause-uses
+returns-in_err-push_closed-clause-uses g c = all_on c.loop-running.invariant.uses c.turn.ensures.uses

@@ -1,5 +1,5 @@
 use Rattle.std.proofs.Common.{◌≡◌, ◌++◌, length}
-use Rattle.hs_top.specs.Lines.{row_text}
+use Rattle.hs_machine.specs.Values.{row_text}
 use Rattle.hs_top.proofs.values.push_values.Given as goal
 
 abbrev pub invariant-loop-value : goal.invariant-loop-value

@@ -1,5 +1,5 @@
 use Rattle.std.specs.Cmp.{tied_itself}
-use Rattle.hs_values.proofs.Lawful.{order_of_total}
+use Rattle.hs_values.specs.TotalOrder.{order_of_total}
 use Rattle.hs_values.proofs.laws.values_are_ordered.Goals as goal
 
 pub returns : goal.returns

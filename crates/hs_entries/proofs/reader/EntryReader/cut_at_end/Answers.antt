@@ -9,7 +9,7 @@ cut_item-requires c =
     let r = c.args.self.now in
     let fresh = fresh_room c.use_to.new.self c.use_to.ensures.fresh in
     let numbers = r.numbers in
-    record { number = λ entry. let some = passed_some r.window r.sound (ap is_entry (sym c.place-place.ensures) ∙ entry) in omega (arith, c.use_to.ensures.room) }
+    record { none = c.use_to.ensures.ahead ∙ c.requires.looked; number = λ entry. let some = passed_some r.window r.sound (ap is_entry (sym c.place-place.ensures) ∙ entry) in omega (arith, c.use_to.ensures.room) }
 
 pub returns-clause-takes : goal.returns-clause-takes
 returns-clause-takes c =

@@ -1,5 +1,7 @@
-use Rattle.std.proofs.Common.{◌≡◌, ◌∙◌, ◌+◌, ◌∷◌, ◌++◌, [], ℕ, List, ap, slice_index}
+use Rattle.std.proofs.Common.{◌≡◌, ◌∙◌, ◌+◌, ◌∷◌, ◌++◌, [], ℕ, List, ap, sym, subst, slice_index, arith}
+use Rattle.hs_entries.specs.declared.item.Item.{Item}
 use Rattle.hs_entries.specs.Entry.{item_of}
+use Rattle.hs_entries.specs.Left.{IsNumbered}
 use Rattle.hs_entries.specs.Window.{begun_of}
 use Rattle.hs_entries.proofs.LeftSteps.{entry_step}
 use Rattle.hs_entries.proofs.Sessions.{item_of-numbered}
@@ -17,3 +19,9 @@ returns-clause-takes c = λ rest.
 pub returns-clause-number : goal.returns-clause-number
 returns-clause-number c =
     rw c.in_ok-item.ensures (item_of-numbered (c.args.self.now.count + 1) _)
+
+pub returns-clause-some : goal.returns-clause-some
+returns-clause-some c = λ is.
+    let n = c.args.self.now.count + 1 in
+    let P : Item → Type 0 = λ i. IsNumbered i n (n + 1) in
+    let no : n + 1 ≡ n = subst P (sym c.in_ok-item.ensures ∙ is) (item_of-numbered n _) in absurd (omega (arith, no))

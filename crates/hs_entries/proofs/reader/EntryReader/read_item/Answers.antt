@@ -1,10 +1,10 @@
-use Rattle.std.proofs.Common.{rules, ◌≡◌, ◌+◌, ◌++◌, ℕ, List, [], None, Ok, ap, sym, arith}
+use Rattle.std.proofs.Common.{rules, ◌≡◌, ◌+◌, ◌++◌, ℕ, List, [], None, Ok, ap, sym, arith, true}
 use Rattle.hs_entries.specs.declared.reader.EntryReader.{EntryReader}
 use Rattle.hs_entries.specs.declared.place.Place.TheVariants.{Between}
 use Rattle.hs_entries.specs.Asking.{Gathers}
-use Rattle.hs_entries.proofs.Asking.{gathers_on, gathers_then, gathers_then_asks, asked_asks, asked_none}
+use Rattle.hs_entries.proofs.Asking.{gathers_on, gathers_then, gathers_then_asks, asked_some, match_err, asked_none}
 use Rattle.hs_entries.proofs.LeftSteps.{continues_trans, continues_beyond, continues_same, limit_beyond}
-use Rattle.hs_entries.specs.Reader.{ahead, room, left}
+use Rattle.hs_entries.specs.Reader.{ahead, room, left_over}
 use Rattle.hs_entries.proofs.reader.EntryReader.read_item.Goals as goal
 
 pub returns-in-Limit-clause-beyond : goal.returns-in-Limit-clause-beyond
@@ -19,25 +19,25 @@ returns-in-Limit-clause-beyond g c = λ told _.
     (limit_beyond (looked.count + 1) looked.window unread looked.sound full more)
 
 -- a look leaves the same
-looked_so_far : {T : Type 0} (reads : T → T → List ℕ → Type 0) (before here looked : EntryReader) (a b : T) → Gathers reads (left before) (left here) a b
-    → looked.count ≡ here.count → ahead looked ≡ ahead here → room looked ≡ room here → Gathers reads (left before) (left looked) a b
+looked_so_far : {T : Type 0} (reads : T → T → List ℕ → Type 0) (before here looked : EntryReader) (a b : T) → Gathers reads (left_over before) (left_over here) a b
+    → looked.count ≡ here.count → ahead looked ≡ ahead here → room looked ≡ room here → Gathers reads (left_over before) (left_over looked) a b
 looked_so_far reads before here looked a b so_far count_is ahead_is room_is =
-    gathers_on reads (left before) (left here) (left looked) a b so_far
+    gathers_on reads (left_over before) (left_over here) (left_over looked) a b so_far
     (λ rest. continues_same (here.count + 1) (looked.count + 1) Between [] (room here) (room looked) (ahead here ++ rest) (ahead looked ++ rest)
     (omega arith) (sym room_is) (ap (λ (l : List ℕ). l ++ rest) (sym ahead_is)))
 
 pub returns-in_err-item-clause-needed : goal.returns-in_err-item-clause-needed
 returns-in_err-item-clause-needed g c =
-    gathers_then_asks g.S.Source.reads (left c.args.self.now) (left c.look.new.self) c.args.source.now c.items.source c.read_on.new.source
+    match_err c.from_residual-in_err-item.result _ _ _ c.from_residual-in_err-item.ensures.1 (gathers_then_asks g.S.Source.reads (left_over c.args.self.now) (left_over c.look.new.self) true c.args.source.now c.items.source c.read_on.new.source
     (looked_so_far g.S.Source.reads c.args.self.now c.items.self c.look.new.self c.args.source.now c.items.source c.items.invariant.gathers
-    c.look.ensures.count c.look.ensures.ahead c.look.ensures.room) c.in_err-item.ensures.asked
+    c.look.ensures.count c.look.ensures.ahead c.look.ensures.room) c.in_err-item.ensures.asked)
 
 pub returns-in-Some-clause-needed : goal.returns-in-Some-clause-needed
 returns-in-Some-clause-needed g c =
-    gathers_then_asks g.S.Source.reads (left c.args.self.now) (left c.look.new.self) c.args.source.now c.items.source c.read_on.new.source
+    gathers_then_asks g.S.Source.reads (left_over c.args.self.now) (left_over c.look.new.self) c.read_on.new.self.has_ended c.args.source.now c.items.source c.read_on.new.source
     (looked_so_far g.S.Source.reads c.args.self.now c.items.self c.look.new.self c.args.source.now c.items.source c.items.invariant.gathers
     c.look.ensures.count c.look.ensures.ahead c.look.ensures.room)
-    (asked_asks g.S.Source.reads (left c.look.new.self) (left c.read_on.new.self) (Ok c.in_ok-item.field-0) c.items.source c.read_on.new.source c.in_ok-item.ensures.asked)
+    (asked_some g.S.Source.reads (left_over c.look.new.self) (left_over c.read_on.new.self) c.read_on.new.self.has_ended c.in_ok-item.field-0 c.items.source c.read_on.new.source c.in_ok-item.ensures.asked)
 
 pub items-preserved : goal.items-preserved
 items-preserved g c =
@@ -47,11 +47,12 @@ items-preserved g c =
       number = search rules;
       shrinks = search rules;
       kept = search rules;
+      goes_on = search rules;
       ready = search rules;
-      gathers = gathers_then g.S.Source.reads (left c.args.self.now) (left c.look.new.self) (left c.read_on.new.self) c.args.source.now c.items.source c.read_on.new.source
+      gathers = gathers_then g.S.Source.reads (left_over c.args.self.now) (left_over c.look.new.self) (left_over c.read_on.new.self) c.args.source.now c.items.source c.read_on.new.source
           (looked_so_far g.S.Source.reads c.args.self.now c.items.self c.look.new.self c.args.source.now c.items.source c.items.invariant.gathers
           c.look.ensures.count c.look.ensures.ahead c.look.ensures.room)
-          (asked_none g.S.Source.reads (left c.look.new.self) (left c.read_on.new.self) c.in_ok-item.field-0 c.items.source c.read_on.new.source none c.in_ok-item.ensures.asked);
+          (asked_none g.S.Source.reads (left_over c.look.new.self) (left_over c.read_on.new.self) c.read_on.new.self.has_ended c.in_ok-item.field-0 c.items.source c.read_on.new.source none c.in_ok-item.ensures.asked);
       later = search rules;
       only = search rules;
     }

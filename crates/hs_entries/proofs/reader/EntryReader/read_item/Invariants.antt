@@ -1,18 +1,19 @@
-use Rattle.std.proofs.Common.{◌≡◌, ◌+◌, ◌-◌, ◌≤◌, true, length}
+use Rattle.std.proofs.Common.{◌≡◌, ◌+◌, ◌-◌, ◌≤◌, true, length, false}
 use Rattle.hs_entries.specs.Left.{Continues}
 use Rattle.hs_entries.specs.Asking.{Gathers}
-use Rattle.hs_entries.specs.Reader.{left, next_number, room, ahead, is_at_hand}
+use Rattle.hs_entries.specs.Reader.{left_over, next_number, room, ahead, is_at_hand}
 use Rattle.hs_entries.proofs.reader.EntryReader.read_item.Given as goal
 
 abbrev pub invariant-items : goal.invariant-items
 invariant-items g l =
     record {
-      continues : g.S.Source.tells → Continues (left l.fn.self (g.S.Source.unread l.fn.source)) (left l.self (g.S.Source.unread l.source));
+      continues : g.S.Source.tells → Continues (left_over l.fn.self (g.S.Source.unread l.fn.source)) (left_over l.self (g.S.Source.unread l.source));
       number : next_number l.self ≡ next_number l.fn.self;
       shrinks : room l.self ≤ room l.fn.self;
       kept : l.self.kept ≡ l.fn.self.kept;
+      goes_on : l.self.has_ended ≡ false;
       ready : is_at_hand l.fn.self ≡ true → (l.source ≡ l.fn.source) × (is_at_hand l.self ≡ true);
-      gathers : Gathers g.S.Source.reads (left l.fn.self) (left l.self) l.fn.source l.source;
+      gathers : Gathers g.S.Source.reads (left_over l.fn.self) (left_over l.self) l.fn.source l.source;
       later : g.S.Source.input_faults l.fn.source ≤ g.S.Source.input_faults l.source;
       only : g.S.Source.only_input l.fn.source l.source;
     }

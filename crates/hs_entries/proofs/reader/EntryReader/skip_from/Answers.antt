@@ -1,7 +1,7 @@
 use Rattle.std.proofs.Common.{rules, ◌≡◌, ◌∙◌, ◌+◌, ◌++◌, true, ℕ, [], List, length, ap, sym, arith}
 use Rattle.hs_entries.specs.Window.{ahead_of, left_of, room_of}
 use Rattle.hs_entries.specs.Left.{long}
-use Rattle.hs_entries.specs.Reader.{ahead, room, cut_at, left, left_within}
+use Rattle.hs_entries.specs.Reader.{ahead, room, cut_at, left_over, left_within}
 use Rattle.hs_entries.specs.Asking.{NeedsMore}
 use Rattle.hs_entries.proofs.Asking.{empty_needs, asks_once, asks_at_most_once, gathers_on, gathers_once, gathers_then, gathers_then_asks, asked_err}
 use Rattle.hs_entries.proofs.LeftSteps.{left_at, continues_trans, continues_takes, continues_same, cut_step, takes_at, fresh_ahead, long_too_long}
@@ -44,8 +44,8 @@ returns-in_err-refill-clause-asked g c =
     let skimmed = c.skim.new.self in
     let mid = left_within skimmed c.in-Nothing.next in
     let needs = empty_needs (skimmed.count + 1) c.in-Nothing.next long (room skimmed) (ahead skimmed) (c.in-Nothing.ensures.skims []).1 in
-    asked_err g.S.Source.reads old (left c.refill.new.self) c.from_residual.result c.args.source.now c.refill.new.source _ c.from_residual.ensures.1
-    (gathers_then_asks g.S.Source.reads old mid c.args.source.now c.skims.source c.refill.new.source (gathers_on g.S.Source.reads old (left_within c.skims.self c.skims.place) mid c.args.source.now c.skims.source
+    asked_err g.S.Source.reads old (left_over c.refill.new.self) c.refill.new.self.has_ended c.from_residual.result c.args.source.now c.refill.new.source _ c.from_residual.ensures.1
+    (gathers_then_asks g.S.Source.reads old mid true c.args.source.now c.skims.source c.refill.new.source (gathers_on g.S.Source.reads old (left_within c.skims.self c.skims.place) mid c.args.source.now c.skims.source
     c.skims.invariant.gathers (λ rest. (c.in-Nothing.ensures.skims rest).0))
     (asks_at_most_once g.S.Source.reads (λ given. NeedsMore (mid given)) c.skims.source c.refill.new.source needs c.in_err-refill.ensures.err))
 
@@ -55,9 +55,10 @@ returns-then-not-branch-clause-asked g c =
     let skimmed = c.skim.new.self in
     let mid = left_within skimmed c.in-Nothing.next in
     let needs = empty_needs (skimmed.count + 1) c.in-Nothing.next long (room skimmed) (ahead skimmed) (c.in-Nothing.ensures.skims []).1 in
-    gathers_then_asks g.S.Source.reads old mid c.args.source.now c.skims.source c.refill.new.source (gathers_on g.S.Source.reads old (left_within c.skims.self c.skims.place) mid c.args.source.now c.skims.source
+    gathers_then_asks g.S.Source.reads old mid c.cut_item.new.self.has_ended c.args.source.now c.skims.source c.refill.new.source (gathers_on g.S.Source.reads old (left_within c.skims.self c.skims.place) mid c.args.source.now c.skims.source
     c.skims.invariant.gathers (λ rest. (c.in-Nothing.ensures.skims rest).0))
-    (asks_once g.S.Source.reads (λ given. NeedsMore (mid given)) c.skims.source c.refill.new.source (left_of c.refill.new.self.window) needs c.in_ok-refill.ensures.one)
+    (asks_once g.S.Source.reads (λ given. NeedsMore (mid given)) c.cut_item.new.self.has_ended c.skims.source c.refill.new.source (left_of c.refill.new.self.window) needs c.in_ok-refill.ensures.one
+    (λ _. c.cut_item.ensures.ended))
 
 pub skims-preserved : goal.skims-preserved
 skims-preserved g c =
@@ -85,6 +86,7 @@ skims-preserved g c =
       shrinks = omega (arith, c.in-Nothing.ensures.shrinks);
       grows = omega (arith, c.in-Nothing.ensures.uses);
       kept = search rules;
+      goes_on = read.goes_on;
       gathers =
           let old = left_within c.args.self.now c.args.from in
           let mid = left_within skimmed c.in-Nothing.next in
@@ -93,7 +95,7 @@ skims-preserved g c =
           let needs = empty_needs (skimmed.count + 1) c.in-Nothing.next long (room skimmed) (ahead skimmed) none in
           gathers_then g.S.Source.reads old mid (left_within after c.in-Nothing.next) c.args.source.now c.skims.source c.refill.new.source (gathers_on g.S.Source.reads old (left_within c.skims.self c.skims.place) mid c.args.source.now c.skims.source
           c.skims.invariant.gathers (λ rest. (c.in-Nothing.ensures.skims rest).0))
-          (gathers_once g.S.Source.reads mid (left_within after c.in-Nothing.next) c.skims.source c.refill.new.source bytes needs read.one (λ more.
+          (gathers_once g.S.Source.reads mid (left_within after c.in-Nothing.next) c.skims.source c.refill.new.source bytes needs read.one (read.some c.if-not-branch.false) (λ more.
           continues_same (skimmed.count + 1) (after.count + 1) c.in-Nothing.next long (room skimmed) (room after) (ahead skimmed ++ (bytes ++ more)) (ahead after ++ more)
           (omega arith) (sym same)
           (ap (λ (l : List ℕ). l ++ (bytes ++ more)) none ∙ ap (λ (l : List ℕ). l ++ more) (sym (fresh_ahead after.window (read.fresh fresh))))));

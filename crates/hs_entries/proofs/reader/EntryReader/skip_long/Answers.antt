@@ -3,13 +3,13 @@ use Rattle.hs_entries.specs.Window.{ahead_of, left_of, room_of}
 use Rattle.hs_entries.specs.Left.{Continues}
 use Rattle.hs_entries.specs.Asking.{NeedsMore}
 use Rattle.hs_entries.proofs.Asking.{looked_needs, asks_once, asks_at_most_once, gathers_once, gathers_then_asked, asked_err}
-use Rattle.hs_entries.specs.Reader.{left, left_within, ahead, room}
+use Rattle.hs_entries.specs.Reader.{left_over, left_within, ahead, room}
 use Rattle.hs_entries.proofs.LeftSteps.{long_start, long_cut, none_on, some_on, continues_beyond, fresh_ahead, fresh_room}
 use Rattle.hs_entries.proofs.reader.EntryReader.skip_long.Goals as goal
 
 -- the long entry or comment goes on
 goes_on : (g : _) (c : goal.After-skip_from g) → g.S.Source.tells
-    → Continues (left c.args.self.now (g.S.Source.unread c.args.source.now)) (left_within c.refill.new.self c.place-place.result (g.S.Source.unread c.refill.new.source))
+    → Continues (left_over c.args.self.now (g.S.Source.unread c.args.source.now)) (left_within c.refill.new.self c.place-place.result (g.S.Source.unread c.refill.new.source))
 goes_on g c told =
     let r = c.args.self.now in
     let used = c.use_to.new.self in
@@ -60,19 +60,20 @@ pub returns-in_err-refill-clause-asked : goal.returns-in_err-refill-clause-asked
 returns-in_err-refill-clause-asked g c =
     let r = c.args.self.now in
     let needs = looked_needs (r.count + 1) r.window r.sound c.requires.looked in
-    asked_err g.S.Source.reads (left r) (left c.refill.new.self) c.from_residual.result c.args.source.now c.refill.new.source _ c.from_residual.ensures.1
-    (asks_at_most_once g.S.Source.reads (λ given. NeedsMore (left r given)) c.args.source.now c.refill.new.source needs c.in_err-refill.ensures.err)
+    asked_err g.S.Source.reads (left_over r) (left_over c.refill.new.self) c.refill.new.self.has_ended c.from_residual.result c.args.source.now c.refill.new.source _ c.from_residual.ensures.1
+    (asks_at_most_once g.S.Source.reads (λ given. NeedsMore (left_over r given)) c.args.source.now c.refill.new.source needs c.in_err-refill.ensures.err)
 
 pub returns-else-branch-clause-asked : goal.returns-else-branch-clause-asked
 returns-else-branch-clause-asked g c =
     let r = c.args.self.now in
     let needs = looked_needs (r.count + 1) r.window r.sound c.requires.looked in
-    asks_once g.S.Source.reads (λ given. NeedsMore (left r given)) c.args.source.now c.refill.new.source (left_of c.refill.new.self.window) needs
-    c.in_ok-refill.ensures.one
+    asks_once g.S.Source.reads (λ given. NeedsMore (left_over r given)) c.cut_item.new.self.has_ended c.args.source.now c.refill.new.source
+    (left_of c.refill.new.self.window) needs c.in_ok-refill.ensures.one
+    (λ _. c.cut_item.ensures.ended)
 
 -- the same, whatever the source gives behind the bytes of the one read
 goes_on_with : (g : _) (c : goal.After-skip_from g) (rest : List ℕ)
-    → Continues (left c.args.self.now (left_of c.refill.new.self.window ++ rest)) (left_within c.refill.new.self c.place-place.result rest)
+    → Continues (left_over c.args.self.now (left_of c.refill.new.self.window ++ rest)) (left_within c.refill.new.self c.place-place.result rest)
 goes_on_with g c rest =
     let r = c.args.self.now in
     let used = c.use_to.new.self in
@@ -94,8 +95,8 @@ returns-then-branch-clause-asked g c =
     let r = c.args.self.now in
     let after = c.refill.new.self in
     let needs = looked_needs (r.count + 1) r.window r.sound c.requires.looked in
-    gathers_then_asked g.S.Source.reads (left r) (left_within after c.place-place.result) (left c.skip_from.new.self) c.skip_from.result c.args.source.now
+    gathers_then_asked g.S.Source.reads (left_over r) (left_within after c.place-place.result) (left_over c.skip_from.new.self) c.skip_from.new.self.has_ended c.skip_from.result c.args.source.now
     c.refill.new.source c.skip_from.new.source
-    (gathers_once g.S.Source.reads (left r) (left_within after c.place-place.result) c.args.source.now c.refill.new.source (left_of after.window) needs
-    c.in_ok-refill.ensures.one (λ rest. goes_on_with g c rest))
+    (gathers_once g.S.Source.reads (left_over r) (left_within after c.place-place.result) c.args.source.now c.refill.new.source (left_of after.window) needs
+    c.in_ok-refill.ensures.one (c.in_ok-refill.ensures.some c.if-branch.true) (λ rest. goes_on_with g c rest))
     c.skip_from.ensures.asked

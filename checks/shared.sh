@@ -1,0 +1,49 @@
+# What the checks share: the program that they look at, a folder of their own, and the count of what passed. Each script of
+# this folder sources it.
+#
+# The program is the proved one, which is built where it isn't there; or the one that HSQL_PROGRAM names.
+# shellcheck shell=bash
+set -eu
+top=$(cd "$(dirname "$(readlink -f "${BASH_SOURCE[0]}")")/.." && pwd)
+check=$(basename "$0" .sh)
+work=$(mktemp -d)
+passed=0
+at_end() { :; }
+trap 'at_end; chmod -R u+w "$work"; rm -rf "$work"' EXIT
+program=${HSQL_PROGRAM:-$top/crates/hsql/out/hsql}
+if [ ! -x "$program" ]; then
+    "$top/bin/hsql" "$work/built" </dev/null >/dev/null
+    rm -f "$work"/built.*
+fi
+
+fail() {
+    echo "$check: $1" >&2
+    exit 1
+}
+
+# needs COMMAND: ends the check, as one that failed, where this command is missing.
+needs() {
+    command -v "$1" >/dev/null || fail "$1 is missing"
+}
+
+pass() { passed=$((passed + 1)); }
+
+# same WANTED SEEN WHAT: two texts are the same.
+same() {
+    [ "$1" = "$2" ] || fail "$3: '$2' in place of '$1'"
+    pass
+}
+
+# ended STATUS MESSAGE COMMAND..: the command, with the standard input and output of the call, ends so.
+ended() {
+    local wanted=$1 message=$2 status=0
+    shift 2
+    "$@" 2>"$work/errors" || status=$?
+    if [ "$status" != "$wanted" ] || [ "$(cat "$work/errors")" != "$message" ]; then
+        fail "'$*' ended with $status and '$(cat "$work/errors")' in place of $wanted and '$message'"
+    fi
+    pass
+}
+
+# done_with WHAT: the last line of a check, which checks/all counts by.
+done_with() { echo "$check: $passed passed: $1"; }

@@ -1,0 +1,17 @@
+use Rattle.std.proofs.Common.{◌≡◌, ℕ, List, Some, None, sym, ◌∙◌, ap}
+use Rattle.std.specs.Option.{option_copied_mut}
+use Rattle.std.specs.Map.{lookup}
+use Rattle.hs_cache.specs.Held.{Held, changed, cleaned, with_page}
+use Rattle.hs_cache.proofs.Entries.{changed_is, changed_none}
+use Rattle.hs_cache.proofs.frames.Frames.set.Goals as goal
+use Rattle.hs_cache.proofs.frames.Frames.set.Goals.{in-Some, in_default}
+
+pub returns-clause-pages : goal.returns-clause-pages
+returns-clause-pages c = elim c.match-peek_mut.branch [
+  | in-Some w ↦
+      let found = sym c.peek_mut.follows ∙ ap option_copied_mut w.in-Some.is in
+      ap (λ i. i.cache.entries) w.self-inside-is ∙ changed_is c.args.p.0 (with_page c.args.page) _ _ found ∙ ap (λ (held : Held). changed c.args.p.0 (with_page c.args.page) held.pages) c.self.view_is
+  | in_default w ↦
+      let found = sym c.peek_mut.follows ∙ ap option_copied_mut w.in_default.is in
+      ap (λ i. i.cache.entries) w.self-inside-is ∙ changed_none c.args.p.0 (with_page c.args.page) _ found ∙ ap (λ (held : Held). changed c.args.p.0 (with_page c.args.page) held.pages) c.self.view_is
+]

@@ -1,0 +1,9 @@
+pub mod Ranges
+pub mod SlotLists
+pub mod KeptNumbers
+pub mod PageFacts
+pub mod Placed
+pub mod Blank
+pub mod Packing
+pub mod Taken
+pub mod Marking
