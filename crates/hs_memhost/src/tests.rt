@@ -1,8 +1,5 @@
 // What no clause says: that the calls succeed where memory is there.
-ghost use Rattle.std.specs.Prelude.{◌≡◌, [], ◌∷◌, IsErrOf};
-ghost use Rattle.hs_host.specs.Disk.{Leaves, settled};
 ghost use Rattle.hs_host.specs.Files.{IsOpen};
-ghost use Rattle.hs_host.specs.Moments.{disk_of};
 
 use crate::{CallList, Images, MemHost, NeverFails};
 use hs_host::{FileKind, Host, HostFault, MountFault, Source};
@@ -109,37 +106,5 @@ fn calls_on_files_fail(rt: HostRuntime) -> Result<(), Fail> {
     let files = Images::new(alloc);
     let mut host = MemHost::new(alloc, Bytes::new(alloc), files, true, none);
     assert_eq!(rt; host.mount("d"), Err(MountFault::Foreign));
-    Ok(())
-}
-
-// Writes `abc` into an empty file. Where that fails, a crash may leave the first of these bytes.
-fn write_three(host: &mut MemHost) -> Result<(), HostFault>
-    requires { disk_of (⟦<MemHost as Host>⟧.history host.old).now FileKind.Log ≡ settled [] }
-    ensures { IsErrOf result HostFault.Fault → Leaves (disk_of (⟦<MemHost as Host>⟧.history host.new).now FileKind.Log) (97 ∷ []) }
-{
-    host.write(FileKind::Log, 0, b"abc")
-}
-
-// Cuts a file of `ab` to one byte. Where that fails, a crash may leave this byte alone.
-fn cut_to_one(host: &mut MemHost) -> Result<(), HostFault>
-    requires { disk_of (⟦<MemHost as Host>⟧.history host.old).now FileKind.Log ≡ settled (97 ∷ 98 ∷ []) }
-    ensures { IsErrOf result HostFault.Fault → Leaves (disk_of (⟦<MemHost as Host>⟧.history host.new).now FileKind.Log) (97 ∷ []) }
-{
-    host.cut(FileKind::Log, 1)
-}
-
-#[test]
-fn failed_calls_may_be_left_in_part(rt: HostRuntime) -> Result<(), Fail> {
-    let alloc = rt.alloc();
-    let first = CallList::from_vec([0].to_vec(alloc)?);
-    let mut host = MemHost::new(alloc, Bytes::new(alloc), Images::new(alloc), false, first);
-    assert_eq!(rt; write_three(&mut host), Err(HostFault::Fault));
-    assert_eq!(rt; host.image(FileKind::Log), b"".as_slice());
-    let mut files = Images::new(alloc);
-    files.log = Bytes::from_vec([97, 98].to_vec(alloc)?);
-    let first = CallList::from_vec([0].to_vec(alloc)?);
-    let mut host = MemHost::new(alloc, Bytes::new(alloc), files, false, first);
-    assert_eq!(rt; cut_to_one(&mut host), Err(HostFault::Fault));
-    assert_eq!(rt; host.image(FileKind::Log), b"ab".as_slice());
     Ok(())
 }
