@@ -109,7 +109,7 @@ impl Host for Noting {
 
     ghost reads_asked = { λ a b bytes told read. absurd told };
 
-    ghost reading_keeps_output = { λ a b read. (ap (λ k. k.history.now.out) read, ap (λ k. k.output_faults) read) };
+    ghost reading_keeps_output = { λ a b read. (ap (λ k. k.out) read, ap (λ k. k.output_faults) read) };
 
     ghost reading_keeps_files = { λ a b read. (ap (λ k. k.files) read, ap (λ k. k.standing) read, ap (λ k. k.disk_faults) read) };
 
@@ -132,11 +132,21 @@ impl Host for Noting {
 
     fn read(&mut self, file: FileKind, at: u64, buf: &mut [u8]) -> Result<(), HostFault> {
         self.note(b'r')?;
+        let len = self.inner.image(file).len() as u64;
+        if at > len {
+            return Err(HostFault::NoMemory);
+        }
+        if buf.len() as u64 > len - at {
+            return Err(HostFault::NoMemory);
+        }
         self.inner.read(file, at, buf)
     }
 
     fn write(&mut self, file: FileKind, at: u64, bytes: &[u8]) -> Result<(), HostFault> {
         self.note(b'w')?;
+        if at > self.inner.image(file).len() as u64 {
+            return Err(HostFault::NoMemory);
+        }
         self.inner.write(file, at, bytes)
     }
 
