@@ -1,4 +1,0 @@
-// The crates that use the outside, by their public names.
-mod entries;
-mod gates;
-mod logs;
