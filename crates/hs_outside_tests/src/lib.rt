@@ -1,0 +1,5 @@
+//! Gated files, the log and the entries over hosts in memory: tests alone. No crate of the product stands on this one.
+#![tactic(auto)]
+
+#[cfg(test)]
+mod tests;

@@ -1,0 +1,4 @@
+// The crates that use the outside, by their public names.
+mod entries;
+mod gates;
+mod logs;
