@@ -1,47 +1,22 @@
 #!/usr/bin/env bash
-# Times calls of the libraries: decimals, LIKE and dates. Prints the median and the least of 101 rounds, which
-# are of about a millisecond each, so that other work on the machine meets few of them.
+# Times calls of the libraries: decimals, LIKE and dates. Prints the median and the least of the rounds of three runs. A
+# round is of about a millisecond, so that other work on the machine meets few of them.
 #
-# usage: bench/values.sh [decimal|like|dates]..      (default: all that the repository has)
+# usage: bench/values.sh [decimal|like|dates]..      (default: all)
 #
-# It writes throwaway programs over copies of crates.txt and crates/ into a temporary folder, has them
-# proved and built there, and removes the folder at the end. This is no part of the gate. A first run
-# proves the libraries in the copy, which takes some minutes.
+# It writes throwaway programs over copies of crates.txt and crates/ into a temporary folder, has them proved and built
+# there, and removes the folder at the end. This is no part of the gate. A first run proves the libraries in the copy,
+# which takes some minutes. With BENCH_FOLDER the copy is kept in that folder, and a later run proves only what has
+# changed.
 set -eu
 wanted=" ${*:-decimal like dates} "
 top=$(cd "$(dirname "${BASH_SOURCE[0]}")/.." && pwd)
 work=$(mktemp -d)
 trap 'rm -rf "$work"' EXIT
-
-# The repository's libraries without what was built of them, in a root of their own.
-mkdir "$work/crates"
-cp "$top/HANDLES" "$work/"
-grep -v '^#' "$top/crates.txt" >"$work/crates.txt"
-for folder in "$top"/crates/*/; do
-    name=$(basename "$folder")
-    mkdir "$work/crates/$name"
-    for part in src specs proofs; do
-        [ ! -d "${folder}${part}" ] || cp -r "${folder}${part}" "$work/crates/$name/"
-    done
-done
-
-# program NAME DEPS, with the text of its main.rt on standard input: prints `LABEL CALLS NANOSECONDS ..` lines.
-program() {
-    local folder="$work/crates/$1"
-    mkdir -p "$folder/src" "$folder/specs" "$folder/proofs"
-    touch "$folder/specs/Lib.antt" "$folder/proofs/Lib.antt"
-    cat >"$folder/src/main.rt"
-    echo "$1: $2" >>"$work/crates.txt"
-    echo "values.sh: proving and building $1" >&2
-    if ! (cd "$folder" && rt run </dev/null >out.txt 2>log.txt); then
-        tail -40 "$folder/log.txt" >&2
-        echo "values.sh: $1 was not proved and built" >&2
-        exit 70
-    fi
-    cat "$folder/out.txt" >>"$work/rounds"
-}
-
-: >"$work/rounds"
+copy=${BENCH_FOLDER:-$work/copy}
+# shellcheck source=bench/shared.sh
+. "$top/bench/shared.sh"
+libraries hs_values hs_decimal hs_scalar hs_temporal
 
 if [[ $wanted == *" decimal "* ]]; then
     program bench_decimal "hs_values hs_decimal" <<'RT'
@@ -195,7 +170,7 @@ fn main(rt: HostRuntime) -> io::Result<()> {
 RT
 fi
 
-if [[ $wanted == *" dates "* ]] && grep -q '^hs_temporal:' "$work/crates.txt"; then
+if [[ $wanted == *" dates "* ]]; then
     program bench_dates "hs_values hs_temporal" <<'RT'
 //! Times the reading of dates.
 #![tactic(auto)]
@@ -240,12 +215,6 @@ fn main(rt: HostRuntime) -> io::Result<()> {
 RT
 fi
 
-# rank LABEL PART: the nanoseconds a call of the round at that part of the way from the least to the greatest.
-rank() {
-    awk -v label="$1" '$1 == label { print $3 / $2 }' "$work/rounds" | sort -g |
-        awk -v part="$2" '{ v[NR] = $1 } END { print v[1 + int((NR - 1) * part)] }'
-}
-
 while read -r label; do
     median=$(rank "$label" 0.5) least=$(rank "$label" 0)
     case $label in
@@ -262,4 +231,4 @@ while read -r label; do
             printf '%-26s median %7.1f, best %7.1f ns a call (wanted: at most %s)\n' "$label" "$median" "$least" "$most"
             ;;
     esac
-done < <(cut -d ' ' -f 1 "$work/rounds" | sort -u)
+done < <(labels)

@@ -1,5 +1,5 @@
 #!/usr/bin/env bash
-# Looks at which files the built program takes for its own, and that it leaves others alone.
+# Looks at which files the built program takes for its own, that it leaves others alone, and which names a database may have.
 #
 # usage: checks/files.sh
 # shellcheck source=checks/shared.sh
@@ -13,8 +13,10 @@ of() {
     for file in "$1".*; do
         if [ -L "$file" ]; then
             echo "$file -> $(readlink "$file")"
-        elif [ -e "$file" ]; then
+        elif [ -f "$file" ]; then
             echo "$file $(md5sum <"$file")"
+        elif [ -e "$file" ]; then
+            stat -c '%n %F' "$file"
         fi
     done
 }
@@ -26,6 +28,12 @@ untouched() {
     ended "$2" "$3" "$program" "$1" <commit >output
     same "" "$(cat output)" "the output over $1"
     same "$before" "$(of "$1")" "the files of $1"
+}
+
+# refused NAME STATUS MESSAGE: a run on this name ends so, and writes nothing to its output.
+refused() {
+    ended "$2" "$3" "$program" "$1" <commit >output
+    same "" "$(cat output)" "the output over $1"
 }
 
 # Files of another program: `.properties` beside them, and a log that isn't empty and stands alone.
@@ -64,6 +72,43 @@ untouched dead_too 4 "hsql: disk fault: dead_too.data: is a link that leads nowh
 [ ! -e nowhere ] || fail "a file was made where a link led"
 ln -s commit/x odd.script
 untouched odd 4 "hsql: disk fault: odd.script: Not a directory"
+
+# What is no plain file: a folder, a pipe, a socket, a device, a link in a circle.
+mkdir folder.log folder_too.data
+untouched folder 4 "hsql: disk fault: folder.log: Is a directory"
+refused folder_too 4 "hsql: disk fault: folder_too.data: Is a directory"
+mkfifo pipe.log
+refused pipe 4 "hsql: disk fault: pipe.log: Illegal seek"
+ln -s /dev/full device.log
+refused device 4 "hsql: disk fault: device.log: No space left on device"
+ln -s circle.log circle.log
+untouched circle 4 "hsql: disk fault: circle.log: Too many levels of symbolic links"
+untouched commit/below 4 "hsql: disk fault: commit/below.properties: Not a directory"
+mkdir -p gone
+(
+    cd gone
+    rmdir ../gone
+    ended 4 "hsql: disk fault: db.log: No such file or directory" "$program" db <../commit >/dev/null 2>&1 || exit 1
+) || fail "a run in a folder that was removed"
+pass
+
+# Names as people write them. What the shell passes on is the name, and its five files have it.
+for name in 'with space' $'of two\nlines' 'ünïcødé' '日本語' '🙂' '.' '..' 'a.b.log' '*' '"' '~' $'\x01' 'a-b' './here' '../here/there'; do
+    mkdir -p here
+    (cd here && ended 0 "" "$program" "$name" <../commit >output) || fail "a run on '$name'"
+    (cd here && ended 0 "" "$program" "$name" </dev/null >output) || fail "a second run on '$name'"
+    same "opened at 1" "$(head -1 here/output)" "the second run on '$name'"
+    [ "$(find here -name '*.log' -printf x)" = x ] || fail "the files of '$name' have other names"
+    rm -rf here
+done
+# The longest name has 244 bytes, so that `.properties` can be looked for behind it.
+longest=$(printf '%0244d' 0)
+ended 0 "" "$program" "$longest" <commit >/dev/null
+untouched "${longest}0" 4 "hsql: disk fault: ${longest}0.properties: File name too long"
+untouched "$(printf '%05000d' 0)" 4 "hsql: disk fault: $(printf '%05000d' 0).properties: File name too long"
+for name in -db -- --help -; do
+    untouched "$name" 1 "hsql: usage: hsql DATABASE < ENTRIES"
+done
 
 # A link to a file that is there is followed.
 touch there.bytes

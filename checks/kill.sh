@@ -10,17 +10,10 @@
 # shellcheck source=checks/shared.sh
 . "$(dirname "$(readlink -f "$0")")/shared.sh"
 rounds=${1:-100}
-round=0
 "$program" "$work/db" <<<'a: CREATE TABLE T (N BIGINT, M BIGINT);' >/dev/null
 
-# Opens the database, and sets `opened` to the number of its commits.
-open() {
-    "$program" "$work/db" </dev/null >"$work/opened" || fail "in round $round: the log that is left isn't opened"
-    opened=$(sed -n '1s/opened at //p' "$work/opened")
-}
-
 awk 'BEGIN { for (at = 1; at <= 2000000; at++) printf "a: INSERT INTO T VALUES (%d,%d);\n", at, -at }' >"$work/input"
-open
+opened=1
 torn=0
 for ((round = 1; round <= rounds; round++)); do
     before=$opened
@@ -28,10 +21,8 @@ for ((round = 1; round <= rounds; round++)); do
     sleep "0.0$(printf '%02d' $((RANDOM % 40 + 1)))"
     kill -KILL $! 2>/dev/null || true
     wait $! 2>/dev/null || true
-    acknowledged=$(grep -o 'committed [0-9]*$' "$work/output" | tail -1 | cut -d' ' -f2)
     closed=$(wc -c <"$work/db.log")
-    open
-    [ "$opened" -ge "${acknowledged:-0}" ] || fail "in round $round: commit $acknowledged was acknowledged, and the next run opened at $opened"
+    opens_behind "$work/db" "$work/output" "in round $round"
     [ "$opened" -ge "$before" ] || fail "in round $round: the run began at $before, and the next one opened at $opened"
     [ "$(wc -c <"$work/db.log")" = "$closed" ] || torn=$((torn + 1))
     pass

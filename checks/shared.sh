@@ -1,7 +1,8 @@
 # What the checks share: the program that they look at, a folder of their own, and the count of what passed. Each script of
 # this folder sources it.
 #
-# The program is the proved one, which is built where it isn't there; or the one that HSQL_PROGRAM names.
+# The program is the proved one, which is built where it isn't there; or the one that HSQL_PROGRAM names. A script that looks
+# at no program sets `no_program` first.
 # shellcheck shell=bash
 set -eu
 top=$(cd "$(dirname "$(readlink -f "${BASH_SOURCE[0]}")")/.." && pwd)
@@ -11,7 +12,7 @@ passed=0
 at_end() { :; }
 trap 'at_end; chmod -R u+w "$work"; rm -rf "$work"' EXIT
 program=${HSQL_PROGRAM:-$top/crates/hsql/out/hsql}
-if [ ! -x "$program" ]; then
+if [ -z "${no_program:-}" ] && [ ! -x "$program" ]; then
     "$top/bin/hsql" "$work/built" </dev/null >/dev/null
     rm -f "$work"/built.*
 fi
@@ -43,6 +44,25 @@ ended() {
         fail "'$*' ended with $status and '$(cat "$work/errors")' in place of $wanted and '$message'"
     fi
     pass
+}
+
+# opens_behind NAME OUTPUT WHAT: the next run of this database opens, at the last commit that this output acknowledges or behind
+# it. Sets `acknowledged` and `opened` to the two numbers of commits.
+opens_behind() {
+    acknowledged=$(grep -o ' committed [0-9]*$' "$2" | tail -1 | cut -d' ' -f3)
+    acknowledged=${acknowledged:-0}
+    "$program" "$1" </dev/null >"$work/again" 2>"$work/errors" || fail "$3: the next run ended with $? and '$(cat "$work/errors")'"
+    opened=$(sed -n '1s/opened at //p' "$work/again")
+    [ "$opened" -ge "$acknowledged" ] || fail "$3: commit $acknowledged was acknowledged, and the next run opened at $opened"
+}
+
+# opens_close NAME OUTPUT WHAT [BEFORE]: the same, and the next run opens one commit behind the last acknowledged one at most,
+# or behind those that were there before (default: 0).
+opens_close() {
+    local last
+    opens_behind "$1" "$2" "$3"
+    last=$((acknowledged > ${4:-0} ? acknowledged : ${4:-0}))
+    [ "$opened" -le $((last + 1)) ] || fail "$3: the last commit that was acknowledged is $last, and the next run opened at $opened"
 }
 
 # done_with WHAT: the last line of a check, which checks/all counts by.

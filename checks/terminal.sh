@@ -4,14 +4,14 @@
 # usage: checks/terminal.sh
 #
 # Each answer comes before more is typed, and the end of the input (Ctrl-D) ends the run, also behind an entry that isn't
-# whole: after a read that gave nothing the program asks for no more. It needs Python 3.
+# whole: after a read that gave nothing the program asks for no more. Ctrl-C ends it by its signal. It needs Python 3.
 # shellcheck source=checks/shared.sh
 . "$(dirname "$(readlink -f "$0")")/shared.sh"
 needs python3
 cat >"$work/type.py" <<'END'
 """Runs PROGRAM NAME on a new terminal, types the lines, and prints what the program wrote and its status.
 
-A line is typed once the answer to the one before it is there; ^D stands for the end of the input."""
+A line is typed once the answer to the one before it is there; ^D stands for the end of the input, ^C for Ctrl-C."""
 import os, pty, select, sys, termios, time
 
 program, name, *lines = sys.argv[1:]
@@ -45,6 +45,8 @@ for line in lines:
         # Behind unfinished text the first Ctrl-D only hands that over, and the second one is the end.
         os.write(terminal, line[:-2].encode())
         os.write(terminal, b"\x04\x04" if line[:-2] else b"\x04")
+    elif line == "^C":
+        os.write(terminal, b"\x03")
     else:
         os.write(terminal, line.encode() + b"\n")
         read_until(lambda text: text.count(b"\n") > answers, 10)
@@ -80,4 +82,11 @@ typed comment 'opened at 0
 closed at 0
 status 0' '-- nothing^D'
 
-done_with "answers on a terminal, and Ctrl-D"
+typed stopped 'opened at 0
+1 a: ok committed 1
+status -2' 'a: CREATE TABLE T (N BIGINT);' '^C'
+typed stopped 'opened at 1
+closed at 1
+status 0' '^D'
+
+done_with "answers on a terminal, Ctrl-D and Ctrl-C"

@@ -12,6 +12,7 @@ status=0
 python3 make_table.py --check || status=1
 python3 make_literal.py --check || status=1
 python3 make_effects.py --check || status=1
+python3 make_spelling.py --check || status=1
 python3 try_edits.py || status=1
 python3 compare.py 1000 || status=1
 exit $status

@@ -70,10 +70,10 @@ items : * #every | item items_more
 items_more : , item items_more |
 froms : from froms_more
 froms_more : , from froms_more |
-where : WHERE e #where |
+where : WHERE e #written | #unwritten
 group : GROUP BY e #group group_more |
 group_more : , e #group group_more |
-having : HAVING e #having |
+having : HAVING e #written | #unwritten
 es : e #first es_more
 es_more : , e #next es_more |
 rows : row rows_more
@@ -120,10 +120,10 @@ update : UPDATE name alias #update SET pair pairs_more update_where #update_stat
 pairs_more : , pair pairs_more |
 pair : name = value
 value : e #assign | DEFAULT #assign_default
-update_where : WHERE e #update_where |
+update_where : WHERE e #written | #unwritten
 ## delete = DELETE FROM name [ [ AS ] name ] [ WHERE e ]
 delete : DELETE FROM name alias #delete delete_where #delete_statement
-delete_where : WHERE e #delete_where |
+delete_where : WHERE e #written | #unwritten
 ## lock = LOCK TABLE name ( READ | WRITE ) { ',' name ( READ | WRITE ) }
 lock : LOCK TABLE #lock claim claims_more #lock_statement
 claims_more : , claim claims_more |
@@ -236,7 +236,7 @@ simple : literal #literal | name qualified | CAST #at ( e AS type ) #cast | CASE
   | MAX #at ( counted ) #max
 qualified : . name #qualified | #column
 arms : WHEN e THEN e #arm arms |
-else : ELSE e #else |
+else : ELSE e #written | #unwritten
 for : FOR e ) #substring_for | ) #substring
 trim : LEADING #leading trim_side | TRAILING #trailing trim_side | BOTH #both trim_side | FROM #from_form e #trim
   | e trim_tail

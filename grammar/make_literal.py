@@ -136,7 +136,7 @@ def words_file(g, literal):
     out = ['-- The words and the symbols as they are spelled, words in capitals, with their classes, made by grammar/make_literal.py.',
            'use Rattle.std.specs.Prelude.{ℕ, List, [], ◌∷◌, codes}',
            'use Rattle.hs_syntax.specs.Names.{' + ', '.join(names) + '}']
-    for name, spelled in (('words', words), ('signs', signs)):
+    for name, spelled in (('keywords', words), ('signs', signs)):
         out += ['', f'abbrev pub {name} : List (List ℕ × ℕ)', f'{name} =']
         out += [f'    (codes "{c}", {quoted(name_of(c))}) ∷' for c in spelled] + ['    []']
     out += ['', '-- the classes of the words that may be names, and that of the words that are none of the grammar\'s', 'unfoldable pub name_classes : List ℕ',

@@ -369,7 +369,7 @@ def words_file(g):
     out.append(f'pub const NOTHING: u8 = {COLUMNS - 1};')
     for name, comment in [('above', 'A whole number above 4,000.'), ('fraction', 'A number with a point.'),
                           ('digit_text', 'A text of 1 to 18 digits.'), ('other_text', 'Any other text.'),
-                          ('identifier', 'A quoted name, or a word that is none of WORDS.')]:
+                          ('identifier', 'A quoted name, or a word that is none of KEYWORDS.')]:
         out.append(f'/// {comment}')
         out.append(f'pub const {name.upper()}: u8 = {plain[name]};')
     out.append('')
@@ -380,7 +380,7 @@ def words_file(g):
     out.append('];')
     out.append('')
     out.append('/// The words of the grammar, in alphabetical order, and their classes.')
-    out.append(f'pub const WORDS: [(&[u8], u8); {len(words)}] = [')
+    out.append(f'pub const KEYWORDS: [(&[u8], u8); {len(words)}] = [')
     out += [f'    (b"{c}", {g.number[c]}),' for c in sorted(words)]
     out.append('];')
     out.append('')
@@ -388,7 +388,7 @@ def words_file(g):
     out.append('/// The classes of the words that may be names, and IDENTIFIER.')
     out.append(f'pub const NAMES: [u8; {len(may_be)}] = [' + ', '.join(str(n) for n in may_be) + '];')
     out.append('')
-    out.append('/// By letter, A being 1, the place in WORDS of the first word with it; and behind the last one the end.')
+    out.append('/// By letter, A being 1, the place in KEYWORDS of the first word with it; and behind the last one the end.')
     out.append('pub const STARTS: [u8; 33] = [' + ', '.join(str(n) for n in starts_of(sorted(words))) + '];')
     return '\n'.join(out) + '\n'
 

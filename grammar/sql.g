@@ -62,12 +62,13 @@
 #   #plus_days #plus_months #minus_days #minus_months  e, count -> e
 #   #first              e -> es                a list of one
 #   #next               es, e -> es
+#   #written            e -> optional          what may be left out stands there
+#   #unwritten          -> optional            it doesn't
 # What begins with a word of its own
 #   #cast               place, e, type -> e
 #   #case               -> case                the token is CASE
 #   #arm                case, e e -> case
-#   #else               case, e -> case
-#   #end                case -> e
+#   #end                case, optional -> e    the value of ELSE
 #   #coalesce #nullif #abs #mod #upper #lower #char_length  place, es -> e
 #   #substring          place, e e -> e
 #   #substring_for      place, e e e -> e
@@ -88,8 +89,8 @@
 #   #inner_join #left_join  from, table, e -> from
 #   #cross_join         from, table -> from
 #   #add_from           select, from -> select
-#   #where #group #having  select, e -> select
-#   #select_body        select -> body
+#   #group              select, e -> select
+#   #select_body        select, optional optional -> body  the conditions of WHERE and of HAVING
 #   #values             -> rows                the token is VALUES
 #   #row                rows, es -> rows
 #   #values_body        rows -> body
@@ -113,11 +114,9 @@
 #   #update             name, alias -> update
 #   #assign             update, name, e -> update
 #   #assign_default     update, name -> update the token is DEFAULT
-#   #update_where       update, e -> update
-#   #update_statement   update -> statement
+#   #update_statement   update, optional -> statement
 #   #delete             name, alias -> delete
-#   #delete_where       delete, e -> delete
-#   #delete_statement   delete -> statement
+#   #delete_statement   delete, optional -> statement
 #   #lock               -> locks
 #   #lock_read #lock_write  locks, name -> locks
 #   #lock_statement     locks -> statement
@@ -229,6 +228,8 @@ marks
   #digits Expression(ExpressionMark::Digits)
   #first Expression(ExpressionMark::First)
   #next Expression(ExpressionMark::Next)
+  #written Expression(ExpressionMark::Written)
+  #unwritten Expression(ExpressionMark::Unwritten)
   #not Expression(ExpressionMark::Not)
   #or Expression(ExpressionMark::Binary(BinaryOperator::Or))
   #and Expression(ExpressionMark::Binary(BinaryOperator::And))
@@ -262,7 +263,6 @@ marks
   #trim_character Function(FunctionMark::TrimCharacter)
   #extract Function(FunctionMark::Extract)
   #count_rows Function(FunctionMark::CountRows)
-  #else Function(FunctionMark::Else)
   #coalesce Function(FunctionMark::Call(Function::Coalesce))
   #nullif Function(FunctionMark::Call(Function::NullIf))
   #abs Function(FunctionMark::Call(Function::Abs))
@@ -290,9 +290,7 @@ marks
   #left_join Query(QueryMark::Join(true))
   #cross_join Query(QueryMark::CrossJoin)
   #add_from Query(QueryMark::AddFrom)
-  #where Query(QueryMark::Where)
   #group Query(QueryMark::Group)
-  #having Query(QueryMark::Having)
   #select_body Query(QueryMark::SelectBody)
   #values Query(QueryMark::Values)
   #row Query(QueryMark::Row)
@@ -322,10 +320,8 @@ marks
   #update Change(ChangeMark::Update)
   #assign Change(ChangeMark::Assign)
   #assign_default Change(ChangeMark::AssignDefault)
-  #update_where Change(ChangeMark::UpdateWhere)
   #update_statement Change(ChangeMark::UpdateStatement)
   #delete Change(ChangeMark::Delete)
-  #delete_where Change(ChangeMark::DeleteWhere)
   #delete_statement Change(ChangeMark::DeleteStatement)
   #lock Change(ChangeMark::Lock)
   #lock_read Change(ChangeMark::Locked(false))
@@ -444,10 +440,10 @@ joins : INNER JOIN table ON e #inner_join joins | JOIN table ON e #inner_join jo
 outer : OUTER |
 table : name alias #table | ( query ) as name #derived
 as : AS |
-where : WHERE e #where |
+where : WHERE e #written | #unwritten
 group : GROUP BY e #group group_more |
 group_more : , e #group group_more |
-having : HAVING e #having |
+having : HAVING e #written | #unwritten
 es : e #first es_more
 es_more : , e #next es_more |
 rows : row rows_more
@@ -482,12 +478,12 @@ mixed_more : , mixed_value mixed_more | ) #add_tuple mixed_tuples
 mixed_value : e #tuple_value | DEFAULT #tuple_default
 mixed_tuples : , ( #tuple mixed_value mixed_more | #insert_tuples
 update : UPDATE name alias #update SET pair pairs_more update_where #update_statement
-update_where : WHERE e #update_where |
+update_where : WHERE e #written | #unwritten
 pairs_more : , pair pairs_more |
 pair : name = value
 value : e #assign | DEFAULT #assign_default
 delete : DELETE FROM name alias #delete delete_where #delete_statement
-delete_where : WHERE e #delete_where |
+delete_where : WHERE e #written | #unwritten
 lock : LOCK TABLE #lock claim claims_more #lock_statement
 claims_more : , claim claims_more |
 claim : name claimed
@@ -573,7 +569,7 @@ simple : literal #literal | name qualified | CAST #at ( e AS type ) #cast | CASE
   | MAX #at ( counted ) #max
 qualified : . name #qualified | #column
 arms : WHEN e THEN e #arm arms |
-else : ELSE e #else |
+else : ELSE e #written | #unwritten
 for : FOR e ) #substring_for | ) #substring
 trim : LEADING #leading trim_side | TRAILING #trailing trim_side | BOTH #both trim_side | FROM #from_form e #trim
   | e trim_tail

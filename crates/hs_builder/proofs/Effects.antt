@@ -1,5 +1,25 @@
 -- What each mark takes from the stacks and puts on them, by the kinds of parts, each kind on a stack of its own.
-use Rattle.std.proofs.Common.{ℕ, List, [], ◌∷◌}
+use Rattle.std.proofs.Common.{ℕ, List, [], ◌∷◌, map}
+use Rattle.hs_ast.specs.Depth.{deepest, value_depth_of, column_rule_depth_of, table_rule_depth_of, element_depth_of, statement_depth_of}
+use Rattle.hs_ast.specs.declared.change.Assignment.{Assignment}
+use Rattle.hs_ast.specs.declared.change.Update.{Update}
+use Rattle.hs_ast.specs.declared.definition.ColumnConstraint.{ColumnConstraint}
+use Rattle.hs_ast.specs.declared.definition.ColumnDefinition.{ColumnDefinition}
+use Rattle.hs_ast.specs.declared.definition.CreateTable.{CreateTable}
+use Rattle.hs_ast.specs.declared.definition.TableConstraint.{TableConstraint}
+use Rattle.hs_builder.specs.declared.part.Built.{Built}
+use Rattle.hs_builder.specs.declared.part.BuiltBody.{BuiltBody}
+use Rattle.hs_builder.specs.declared.part.BuiltCase.{BuiltCase}
+use Rattle.hs_builder.specs.declared.part.BuiltFrom.{BuiltFrom}
+use Rattle.hs_builder.specs.declared.part.BuiltList.{BuiltList}
+use Rattle.hs_builder.specs.declared.part.BuiltOptional.{BuiltOptional}
+use Rattle.hs_builder.specs.declared.part.BuiltQuery.{BuiltQuery}
+use Rattle.hs_builder.specs.declared.part.BuiltRows.{BuiltRows}
+use Rattle.hs_builder.specs.declared.part.BuiltSelect.{BuiltSelect}
+use Rattle.hs_builder.specs.declared.part.BuiltTable.{BuiltTable}
+use Rattle.hs_builder.specs.declared.part.BuiltTuple.{BuiltTuple}
+use Rattle.hs_builder.specs.declared.part.BuiltTuples.{BuiltTuples}
+use Rattle.hs_builder.proofs.Levels.{Levels, shapes}
 use Rattle.hs_builder.specs.declared.mark.Mark.{Mark}
 use Rattle.hs_builder.specs.declared.mark.Mark.TheVariants as mark
 use Rattle.hs_builder.specs.declared.mark.LeafMark.{LeafMark}
@@ -17,7 +37,7 @@ use Rattle.hs_builder.specs.declared.mark.DefinitionMark.TheVariants as d_mark
 use Rattle.hs_builder.specs.declared.mark.SessionMark.{SessionMark}
 use Rattle.hs_builder.specs.declared.mark.SessionMark.TheVariants as s_mark
 use Rattle.hs_builder.specs.declared.part.Parts.{Parts}
-use Rattle.hs_builder.proofs.Heights.{none, height, Heights, Effect}
+use Rattle.hs_builder.proofs.Heights.{none, Heights, Effect}
 
 -- ---- the stacks, by their numbers
 
@@ -126,12 +146,38 @@ modes = 33
 abbrev pub statement : ℕ
 statement = 34
 
+abbrev pub optional : ℕ
+optional = 35
+
+-- ---- the depths of parts; 0 where a part has none
+
+abbrev flat : {A : Type 0} → List A → List ℕ
+flat = map (λ x. 0)
+
+abbrev pub update_depth : Update → ℕ
+update_depth u = deepest (map (λ (a : Assignment). value_depth_of a.value) u.assignments)
+
+abbrev pub table_depth : CreateTable → ℕ
+table_depth t = deepest (map element_depth_of t.elements)
+
+abbrev pub rule_depth : ColumnConstraint → ℕ
+rule_depth c = column_rule_depth_of c.rule
+
+abbrev pub column_depth : ColumnDefinition → ℕ
+column_depth c = deepest (map rule_depth c.constraints)
+
+abbrev pub constraint_depth : TableConstraint → ℕ
+constraint_depth c = table_rule_depth_of c.rule
+
+abbrev pub levels : Parts → Levels
+levels p =
+    flat p.leaves.places ∷ flat p.leaves.names ∷ flat p.leaves.name_lists ∷ flat p.leaves.aliases ∷ flat p.leaves.flags ∷ flat p.leaves.numbers ∷ flat p.leaves.texts ∷ flat p.leaves.literals ∷ flat p.leaves.types ∷ map (λ (b : Built). b.depth) p.expressions.whole ∷ map (λ (l : BuiltList). l.depth) p.expressions.lists ∷ map (λ (c : BuiltCase). c.depth) p.expressions.cases ∷ flat p.expressions.forms ∷ flat p.expressions.fields ∷ flat p.expressions.counts ∷ map (λ (s : BuiltSelect). s.depth) p.queries.selects ∷ map (λ (t : BuiltTable). t.depth) p.queries.tables ∷ map (λ (f : BuiltFrom). f.depth) p.queries.froms ∷ map (λ (v : BuiltRows). v.depth) p.queries.rows ∷ map (λ (b : BuiltBody). b.depth) p.queries.bodies ∷ map (λ (q : BuiltQuery). q.depth) p.queries.whole ∷ flat p.changes.targets ∷ map (λ (t : BuiltTuple). t.depth) p.changes.tuples ∷ map (λ (t : BuiltTuples). t.depth) p.changes.tuple_lists ∷ map update_depth p.changes.updates ∷ flat p.changes.deletes ∷ flat p.changes.locks ∷ map table_depth p.definitions.tables ∷ map column_depth p.definitions.columns ∷ flat p.definitions.headers ∷ flat p.definitions.keys ∷ flat p.definitions.actions ∷ map constraint_depth p.definitions.constraints ∷ flat p.modes ∷ map statement_depth_of p.statements ∷ map (λ (o : BuiltOptional). o.depth) p.expressions.optional ∷ []
+
 abbrev pub heights : Parts → Heights
-heights p =
-    height p.leaves.places ∷ height p.leaves.names ∷ height p.leaves.name_lists ∷ height p.leaves.aliases ∷ height p.leaves.flags ∷ height p.leaves.numbers ∷ height p.leaves.texts ∷ height p.leaves.literals ∷ height p.leaves.types ∷ height p.expressions.whole ∷ height p.expressions.lists ∷ height p.expressions.cases ∷ height p.expressions.forms ∷ height p.expressions.fields ∷ height p.expressions.counts ∷ height p.queries.selects ∷ height p.queries.tables ∷ height p.queries.froms ∷ height p.queries.rows ∷ height p.queries.bodies ∷ height p.queries.whole ∷ height p.changes.targets ∷ height p.changes.tuples ∷ height p.changes.tuple_lists ∷ height p.changes.updates ∷ height p.changes.deletes ∷ height p.changes.locks ∷ height p.definitions.tables ∷ height p.definitions.columns ∷ height p.definitions.headers ∷ height p.definitions.keys ∷ height p.definitions.actions ∷ height p.definitions.constraints ∷ height p.modes ∷ height p.statements ∷ []
+heights p = shapes (levels p)
 
 abbrev pub bottom : Heights
-bottom = none ∷ none ∷ none ∷ none ∷ none ∷ none ∷ none ∷ none ∷ none ∷ none ∷ none ∷ none ∷ none ∷ none ∷ none ∷ none ∷ none ∷ none ∷ none ∷ none ∷ none ∷ none ∷ none ∷ none ∷ none ∷ none ∷ none ∷ none ∷ none ∷ none ∷ none ∷ none ∷ none ∷ none ∷ none ∷ []
+bottom = none ∷ none ∷ none ∷ none ∷ none ∷ none ∷ none ∷ none ∷ none ∷ none ∷ none ∷ none ∷ none ∷ none ∷ none ∷ none ∷ none ∷ none ∷ none ∷ none ∷ none ∷ none ∷ none ∷ none ∷ none ∷ none ∷ none ∷ none ∷ none ∷ none ∷ none ∷ none ∷ none ∷ none ∷ none ∷ none ∷ []
 
 abbrev pub by : List ℕ → List ℕ → Effect
 by takes puts = record { takes = takes; puts = puts }
@@ -181,13 +227,14 @@ expressions e_mark.Digits = by (text ∷ []) (count ∷ [])
 expressions (e_mark.Interval _ _) = by (e ∷ count ∷ []) (e ∷ [])
 expressions e_mark.First = by (e ∷ []) (es ∷ [])
 expressions e_mark.Next = by (e ∷ es ∷ []) (es ∷ [])
+expressions e_mark.Written = by (e ∷ []) (optional ∷ [])
+expressions e_mark.Unwritten = by [] (optional ∷ [])
 
 abbrev pub functions : FunctionMark → Effect
 functions f_mark.Cast = by (place ∷ type ∷ e ∷ []) (e ∷ [])
 functions f_mark.Case = by [] (case ∷ [])
 functions f_mark.Arm = by (case ∷ e ∷ e ∷ []) (case ∷ [])
-functions f_mark.Else = by (case ∷ e ∷ []) (case ∷ [])
-functions f_mark.End = by (case ∷ []) (e ∷ [])
+functions f_mark.End = by (optional ∷ case ∷ []) (e ∷ [])
 functions (f_mark.Call _) = by (place ∷ es ∷ []) (e ∷ [])
 functions f_mark.Substring = by (place ∷ e ∷ e ∷ []) (e ∷ [])
 functions f_mark.SubstringFor = by (place ∷ e ∷ e ∷ e ∷ []) (e ∷ [])
@@ -209,10 +256,8 @@ queries q_mark.From = by (table ∷ []) (from ∷ [])
 queries (q_mark.Join _) = by (e ∷ table ∷ from ∷ []) (from ∷ [])
 queries q_mark.CrossJoin = by (table ∷ from ∷ []) (from ∷ [])
 queries q_mark.AddFrom = by (from ∷ select ∷ []) (select ∷ [])
-queries q_mark.Where = by (e ∷ select ∷ []) (select ∷ [])
 queries q_mark.Group = by (e ∷ select ∷ []) (select ∷ [])
-queries q_mark.Having = by (e ∷ select ∷ []) (select ∷ [])
-queries q_mark.SelectBody = by (select ∷ []) (body ∷ [])
+queries q_mark.SelectBody = by (optional ∷ optional ∷ select ∷ []) (body ∷ [])
 queries q_mark.Values = by [] (rows ∷ [])
 queries q_mark.Row = by (es ∷ rows ∷ []) (rows ∷ [])
 queries q_mark.ValuesBody = by (rows ∷ []) (body ∷ [])
@@ -238,11 +283,9 @@ changes c_mark.InsertQuery = by (target ∷ query ∷ []) (statement ∷ [])
 changes c_mark.Update = by (name ∷ alias ∷ []) (update ∷ [])
 changes c_mark.Assign = by (name ∷ e ∷ update ∷ []) (update ∷ [])
 changes c_mark.AssignDefault = by (name ∷ update ∷ []) (update ∷ [])
-changes c_mark.UpdateWhere = by (e ∷ update ∷ []) (update ∷ [])
-changes c_mark.UpdateStatement = by (update ∷ []) (statement ∷ [])
+changes c_mark.UpdateStatement = by (optional ∷ update ∷ []) (statement ∷ [])
 changes c_mark.Delete = by (name ∷ alias ∷ []) (delete ∷ [])
-changes c_mark.DeleteWhere = by (e ∷ delete ∷ []) (delete ∷ [])
-changes c_mark.DeleteStatement = by (delete ∷ []) (statement ∷ [])
+changes c_mark.DeleteStatement = by (optional ∷ delete ∷ []) (statement ∷ [])
 changes c_mark.Lock = by [] (locks ∷ [])
 changes (c_mark.Locked _) = by (name ∷ locks ∷ []) (locks ∷ [])
 changes c_mark.LockStatement = by (locks ∷ []) (statement ∷ [])

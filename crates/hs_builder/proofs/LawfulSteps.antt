@@ -1,6 +1,6 @@
 -- Each step makes lawful parts of lawful ones.
 use Rattle.std.proofs.Common.{◌≡◌, ℕ, ◌+◌, ◌^◌, ◌-◌, arith, suc, zero, Bool, true, false, ◌&&◌, List, [], ◌∷◌, ◌++◌, Option, Some, None, refl, ap, ◌∙◌}
-use Rattle.std.specs.Prelude.{ℤ, pos, negsuc, ◌-ℤ◌, nat_le, nat_lt, unwrap_or, cond}
+use Rattle.std.specs.Prelude.{ℤ, pos, negsuc, ◌-ℤ◌, nat_le, nat_lt, max, unwrap_or, cond}
 use Rattle.std.proofs.lemmas.Bool.Decides.{nat_tests}
 use Rattle.std.specs.List.{list_all}
 use Rattle.hs_ast.specs.Lawful as law
@@ -58,6 +58,7 @@ use Rattle.hs_builder.specs.declared.part.BuiltBody.{BuiltBody}
 use Rattle.hs_builder.specs.declared.part.BuiltCase.{BuiltCase}
 use Rattle.hs_builder.specs.declared.part.BuiltFrom.{BuiltFrom}
 use Rattle.hs_builder.specs.declared.part.BuiltList.{BuiltList}
+use Rattle.hs_builder.specs.declared.part.BuiltOptional.{BuiltOptional}
 use Rattle.hs_builder.specs.declared.part.BuiltQuery.{BuiltQuery}
 use Rattle.hs_builder.specs.declared.part.BuiltRows.{BuiltRows}
 use Rattle.hs_builder.specs.declared.part.BuiltSelect.{BuiltSelect}
@@ -78,15 +79,15 @@ use Rattle.hs_builder.specs.Leaves as leaves
 use Rattle.hs_builder.specs.Queries as query
 use Rattle.hs_builder.specs.Queries.{body_at, join_of, with_offset}
 use Rattle.hs_builder.specs.Sessions as session
-use Rattle.hs_builder.specs.Steps.{greater, over, at_depth, natural}
-use Rattle.hs_builder.specs.LawfulParts.{arm_lawful, join_lawful, item_lawful, table_lawful, from_lawful, key_lawful, row_lawful, LawfulName, LawfulNames, LawfulAlias, LawfulNumber, LawfulLiteral, LawfulType, LawfulCount, LawfulBuilt, LawfulList, LawfulCase, LawfulSelect, LawfulTable, LawfulFrom, LawfulRows, LawfulBody, LawfulQuery, LawfulTarget, LawfulTuple, LawfulTuples, LawfulUpdate, LawfulDelete, LawfulLocks, LawfulCreate, LawfulColumn, LawfulHeader, LawfulKey, LawfulConstraint, LawfulStatement, Every, TopIs, TopTwoAre, IsPrecision, IsScaled, IsLength, IsPositive, IsUnsigned}
+use Rattle.hs_builder.specs.Steps.{Level, within, beyond, over, at_depth, natural}
+use Rattle.hs_builder.specs.LawfulParts.{arm_lawful, join_lawful, item_lawful, table_lawful, from_lawful, key_lawful, row_lawful, LawfulName, LawfulNames, LawfulAlias, LawfulNumber, LawfulLiteral, LawfulType, LawfulCount, LawfulBuilt, LawfulList, LawfulCase, LawfulOptional, LawfulSelect, LawfulTable, LawfulFrom, LawfulRows, LawfulBody, LawfulQuery, LawfulTarget, LawfulTuple, LawfulTuples, LawfulUpdate, LawfulDelete, LawfulLocks, LawfulCreate, LawfulColumn, LawfulHeader, LawfulKey, LawfulConstraint, LawfulStatement, Every, TopIs, TopTwoAre, IsPrecision, IsScaled, IsLength, IsPositive, IsUnsigned}
 use Rattle.hs_builder.proofs.Covering.{Then}
 use Rattle.hs_builder.proofs.LawfulLayers as layer
 use Rattle.hs_builder.proofs.LawfulLayers.{both, left, right, pushed, false_is_true}
 
-any_depth : {S : Type 0} (P : S → Type 0) (o : Option ℕ) (f : ℕ → S) → ((d : ℕ) → P (f d)) → Then P (at_depth o f)
-any_depth P (Some d) f h = h d
-any_depth P None f h = tt
+any_depth : {S : Type 0} (P : S → Type 0) (l : Level) (f : ℕ → S) → ((d : ℕ) → P (f d)) → Then P (at_depth l f)
+any_depth P (within d) f h = h d
+any_depth P (beyond d) f h = h d
 
 query_is : (q : BuiltQuery) → LawfulQuery q → is_lawful_query (query_of q) ≡ true
 query_is q k = layer.query q.at q.body q.order_by q.limit k.body k.order_by k.limit
@@ -257,7 +258,7 @@ is_null_in_expression negated (a ∷ below) (k_a, k_below) = any_depth (λ (z : 
 is_null_in_expression negated [] held = tt
 
 pub between_in_expression : (x : List Bool × List Built) → Every LawfulBuilt x.1 → Then (λ (z : List Bool × List Built). Every LawfulBuilt z.1) (expression.between x)
-between_in_expression ((negated ∷ flags), (high ∷ low ∷ a ∷ below)) (k_high, (k_low, (k_a, k_below))) = any_depth (λ (z : List Bool × List Built). Every LawfulBuilt z.1) (over a.depth (greater low.depth high.depth)) (λ depth. (flags, built a.start (kind.Between a.tree negated low.tree high.tree) depth ∷ below)) (λ depth. (layer.between a.start a.tree negated low.tree high.tree k_a k_low k_high, k_below))
+between_in_expression ((negated ∷ flags), (high ∷ low ∷ a ∷ below)) (k_high, (k_low, (k_a, k_below))) = any_depth (λ (z : List Bool × List Built). Every LawfulBuilt z.1) (over a.depth (max low.depth high.depth)) (λ depth. (flags, built a.start (kind.Between a.tree negated low.tree high.tree) depth ∷ below)) (λ depth. (layer.between a.start a.tree negated low.tree high.tree k_a k_low k_high, k_below))
 between_in_expression ([], s1) held = tt
 between_in_expression ((negated ∷ flags), (high ∷ low ∷ [])) held = tt
 between_in_expression ((negated ∷ flags), (high ∷ [])) held = tt
@@ -321,6 +322,13 @@ next_in_expression ((e ∷ expressions), (list ∷ below)) ((k_e, k_expressions)
 next_in_expression ([], s1) held = tt
 next_in_expression ((e ∷ expressions), []) held = tt
 
+pub written_in_expression : (x : List Built × List BuiltOptional) → Every LawfulBuilt x.0 × Every LawfulOptional x.1 → Then (λ (z : List Built × List BuiltOptional). Every LawfulBuilt z.0 × Every LawfulOptional z.1) (expression.written x)
+written_in_expression ((e ∷ expressions), below) ((k_e, k_expressions), k_below) = (k_expressions, (k_e, k_below))
+written_in_expression ([], s1) held = tt
+
+pub unwritten_in_expression : (x : List BuiltOptional) → Every LawfulOptional x → Then (λ (z : List BuiltOptional). Every LawfulOptional z) (expression.unwritten x)
+unwritten_in_expression below k_below = (refl, k_below)
+
 pub cast_in_function : (x : List ℕ × List DataType × List Built) → Every LawfulType x.1 × Every LawfulBuilt x.2 → Then (λ (z : List ℕ × List DataType × List Built). Every LawfulType z.1 × Every LawfulBuilt z.2) (functions.cast x)
 cast_in_function ((at ∷ places), (t ∷ types), (a ∷ below)) ((k_t, k_types), (k_a, k_below)) = any_depth (λ (z : List ℕ × List DataType × List Built). Every LawfulType z.1 × Every LawfulBuilt z.2) (over a.depth 0) (λ depth. (places, types, built at (kind.Cast a.tree t) depth ∷ below)) (λ depth. (k_types, (layer.cast at a.tree t k_a k_t, k_below)))
 cast_in_function ([], s1, s2) held = tt
@@ -328,22 +336,18 @@ cast_in_function ((at ∷ places), [], s2) held = tt
 cast_in_function ((at ∷ places), (t ∷ types), []) held = tt
 
 pub begin_case_in_function : (token : Token) (x : List BuiltCase) → Every LawfulCase x → Then (λ (z : List BuiltCase). Every LawfulCase z) (functions.begin_case token x)
-begin_case_in_function token below k_below = (record { arms = refl; otherwise = refl }, k_below)
+begin_case_in_function token below k_below = (record { arms = refl }, k_below)
 
 pub arm_in_function : (x : List BuiltCase × List Built) → Every LawfulCase x.0 × Every LawfulBuilt x.1 → Then (λ (z : List BuiltCase × List Built). Every LawfulCase z.0 × Every LawfulBuilt z.1) (functions.arm x)
-arm_in_function ((c ∷ cases), (value ∷ test ∷ below)) ((k_c, k_cases), (k_value, (k_test, k_below))) = ((record { arms = pushed arm_lawful c.arms (roll-CaseArm (record { test = test.tree; value = value.tree })) k_c.arms (layer.arm test.tree value.tree k_test k_value); otherwise = k_c.otherwise }, k_cases), k_below)
+arm_in_function ((c ∷ cases), (value ∷ test ∷ below)) ((k_c, k_cases), (k_value, (k_test, k_below))) = ((record { arms = pushed arm_lawful c.arms (roll-CaseArm (record { test = test.tree; value = value.tree })) k_c.arms (layer.arm test.tree value.tree k_test k_value) }, k_cases), k_below)
 arm_in_function ([], s1) held = tt
 arm_in_function ((c ∷ cases), (value ∷ [])) held = tt
 arm_in_function ((c ∷ cases), []) held = tt
 
-pub otherwise_in_function : (x : List BuiltCase × List Built) → Every LawfulCase x.0 × Every LawfulBuilt x.1 → Then (λ (z : List BuiltCase × List Built). Every LawfulCase z.0 × Every LawfulBuilt z.1) (functions.otherwise x)
-otherwise_in_function ((c ∷ cases), (e ∷ below)) ((k_c, k_cases), (k_e, k_below)) = ((record { arms = k_c.arms; otherwise = k_e }, k_cases), k_below)
-otherwise_in_function ([], s1) held = tt
-otherwise_in_function ((c ∷ cases), []) held = tt
-
-pub end_case_in_function : (x : List BuiltCase × List Built) → Every LawfulCase x.0 × Every LawfulBuilt x.1 → Then (λ (z : List BuiltCase × List Built). Every LawfulCase z.0 × Every LawfulBuilt z.1) (functions.end_case x)
-end_case_in_function ((c ∷ cases), below) ((k_c, k_cases), k_below) = any_depth (λ (z : List BuiltCase × List Built). Every LawfulCase z.0 × Every LawfulBuilt z.1) (over c.depth 0) (λ depth. (cases, built c.at (kind.Case c.arms c.otherwise) depth ∷ below)) (λ depth. (k_cases, (layer.case_of c.at c.arms c.otherwise k_c.arms k_c.otherwise, k_below)))
-end_case_in_function ([], s1) held = tt
+pub end_case_in_function : (x : List BuiltOptional × List BuiltCase × List Built) → Every LawfulOptional x.0 × Every LawfulCase x.1 × Every LawfulBuilt x.2 → Then (λ (z : List BuiltOptional × List BuiltCase × List Built). Every LawfulOptional z.0 × Every LawfulCase z.1 × Every LawfulBuilt z.2) (functions.end_case x)
+end_case_in_function ((o ∷ optional), (c ∷ cases), below) ((k_o, k_optional), (k_c, k_cases), k_below) = any_depth (λ (z : List BuiltOptional × List BuiltCase × List Built). Every LawfulOptional z.0 × Every LawfulCase z.1 × Every LawfulBuilt z.2) (over c.depth o.depth) (λ depth. (optional, cases, built c.at (kind.Case c.arms o.tree) depth ∷ below)) (λ depth. (k_optional, k_cases, (layer.case_of c.at c.arms o.tree k_c.arms k_o, k_below)))
+end_case_in_function ([], s1, s2) held = tt
+end_case_in_function ((o ∷ optional), [], s2) held = tt
 
 pub call_in_function : (function : Function) (x : List ℕ × List Built × List BuiltList) → Every LawfulBuilt x.1 × Every LawfulList x.2 → Then (λ (z : List ℕ × List Built × List BuiltList). Every LawfulBuilt z.1 × Every LawfulList z.2) (functions.call function x)
 call_in_function function ((at ∷ places), below, (list ∷ lists)) (k_below, (k_list, k_lists)) = any_depth (λ (z : List ℕ × List Built × List BuiltList). Every LawfulBuilt z.1 × Every LawfulList z.2) (over list.depth 0) (λ depth. (places, built at (kind.Call function list.trees) depth ∷ below, lists)) (λ depth. ((layer.call at function list.trees k_list, k_below), k_lists))
@@ -357,7 +361,7 @@ substring_in_function ((at ∷ places), (start ∷ [])) held = tt
 substring_in_function ((at ∷ places), []) held = tt
 
 pub substring_for_in_function : (x : List ℕ × List Built) → Every LawfulBuilt x.1 → Then (λ (z : List ℕ × List Built). Every LawfulBuilt z.1) (functions.substring_for x)
-substring_for_in_function ((at ∷ places), (count ∷ start ∷ text ∷ below)) (k_count, (k_start, (k_text, k_below))) = any_depth (λ (z : List ℕ × List Built). Every LawfulBuilt z.1) (over text.depth (greater start.depth count.depth)) (λ depth. (places, built at (kind.Substring text.tree start.tree (Some count.tree)) depth ∷ below)) (λ depth. (layer.substring_some at text.tree start.tree count.tree k_text k_start k_count, k_below))
+substring_for_in_function ((at ∷ places), (count ∷ start ∷ text ∷ below)) (k_count, (k_start, (k_text, k_below))) = any_depth (λ (z : List ℕ × List Built). Every LawfulBuilt z.1) (over text.depth (max start.depth count.depth)) (λ depth. (places, built at (kind.Substring text.tree start.tree (Some count.tree)) depth ∷ below)) (λ depth. (layer.substring_some at text.tree start.tree count.tree k_text k_start k_count, k_below))
 substring_for_in_function ([], s1) held = tt
 substring_for_in_function ((at ∷ places), (count ∷ start ∷ [])) held = tt
 substring_for_in_function ((at ∷ places), (count ∷ [])) held = tt
@@ -393,16 +397,16 @@ aggregate_in_function function ((at ∷ places), [], s2) held = tt
 aggregate_in_function function ((at ∷ places), (distinct ∷ flags), []) held = tt
 
 pub begin_select_in_query : (x : List ℕ × List Bool × List BuiltSelect) → Every LawfulSelect x.2 → Then (λ (z : List ℕ × List Bool × List BuiltSelect). Every LawfulSelect z.2) (query.begin_select x)
-begin_select_in_query ((at ∷ places), (distinct ∷ flags), below) k_below = (record { items = refl; from = refl; filter = refl; group_by = refl; having = refl }, k_below)
+begin_select_in_query ((at ∷ places), (distinct ∷ flags), below) k_below = (record { items = refl; from = refl; group_by = refl }, k_below)
 begin_select_in_query ([], s1, s2) held = tt
 begin_select_in_query ((at ∷ places), [], s2) held = tt
 
 pub every_in_query : (token : Token) (x : List BuiltSelect) → Every LawfulSelect x → Then (λ (z : List BuiltSelect). Every LawfulSelect z) (query.every token x)
-every_in_query token (s ∷ below) (k_s, k_below) = (record { items = pushed item_lawful s.items (shown.Every token.start) k_s.items (layer.every token.start); from = k_s.from; filter = k_s.filter; group_by = k_s.group_by; having = k_s.having }, k_below)
+every_in_query token (s ∷ below) (k_s, k_below) = (record { items = pushed item_lawful s.items (shown.Every token.start) k_s.items (layer.every token.start); from = k_s.from; group_by = k_s.group_by }, k_below)
 every_in_query token [] held = tt
 
 pub item_in_query : (x : List (Option Identifier) × List Built × List BuiltSelect) → Every LawfulAlias x.0 × Every LawfulBuilt x.1 × Every LawfulSelect x.2 → Then (λ (z : List (Option Identifier) × List Built × List BuiltSelect). Every LawfulAlias z.0 × Every LawfulBuilt z.1 × Every LawfulSelect z.2) (query.item x)
-item_in_query ((alias ∷ aliases), (e ∷ expressions), (s ∷ below)) ((k_alias, k_aliases), (k_e, k_expressions), (k_s, k_below)) = (k_aliases, k_expressions, (record { items = pushed item_lawful s.items (shown.One e.start e.tree alias) k_s.items (layer.one e.start e.tree alias k_e k_alias); from = k_s.from; filter = k_s.filter; group_by = k_s.group_by; having = k_s.having }, k_below))
+item_in_query ((alias ∷ aliases), (e ∷ expressions), (s ∷ below)) ((k_alias, k_aliases), (k_e, k_expressions), (k_s, k_below)) = (k_aliases, k_expressions, (record { items = pushed item_lawful s.items (shown.One e.start e.tree alias) k_s.items (layer.one e.start e.tree alias k_e k_alias); from = k_s.from; group_by = k_s.group_by }, k_below))
 item_in_query ([], s1, s2) held = tt
 item_in_query ((alias ∷ aliases), [], s2) held = tt
 item_in_query ((alias ∷ aliases), (e ∷ expressions), []) held = tt
@@ -433,28 +437,20 @@ cross_join_in_query ([], s1) held = tt
 cross_join_in_query ((t ∷ tables), []) held = tt
 
 pub add_from_in_query : (x : List BuiltFrom × List BuiltSelect) → Every LawfulFrom x.0 × Every LawfulSelect x.1 → Then (λ (z : List BuiltFrom × List BuiltSelect). Every LawfulFrom z.0 × Every LawfulSelect z.1) (query.add_from x)
-add_from_in_query ((f ∷ froms), (s ∷ below)) ((k_f, k_froms), (k_s, k_below)) = (k_froms, (record { items = k_s.items; from = pushed from_lawful s.from (roll-FromItem (record { table = f.table; joins = f.joins })) k_s.from (layer.from f.table f.joins k_f.table k_f.joins); filter = k_s.filter; group_by = k_s.group_by; having = k_s.having }, k_below))
+add_from_in_query ((f ∷ froms), (s ∷ below)) ((k_f, k_froms), (k_s, k_below)) = (k_froms, (record { items = k_s.items; from = pushed from_lawful s.from (roll-FromItem (record { table = f.table; joins = f.joins })) k_s.from (layer.from f.table f.joins k_f.table k_f.joins); group_by = k_s.group_by }, k_below))
 add_from_in_query ([], s1) held = tt
 add_from_in_query ((f ∷ froms), []) held = tt
 
-pub filter_in_query : (x : List Built × List BuiltSelect) → Every LawfulBuilt x.0 × Every LawfulSelect x.1 → Then (λ (z : List Built × List BuiltSelect). Every LawfulBuilt z.0 × Every LawfulSelect z.1) (query.filter x)
-filter_in_query ((e ∷ expressions), (s ∷ below)) ((k_e, k_expressions), (k_s, k_below)) = (k_expressions, (record { items = k_s.items; from = k_s.from; filter = k_e; group_by = k_s.group_by; having = k_s.having }, k_below))
-filter_in_query ([], s1) held = tt
-filter_in_query ((e ∷ expressions), []) held = tt
-
 pub group_in_query : (x : List Built × List BuiltSelect) → Every LawfulBuilt x.0 × Every LawfulSelect x.1 → Then (λ (z : List Built × List BuiltSelect). Every LawfulBuilt z.0 × Every LawfulSelect z.1) (query.group x)
-group_in_query ((e ∷ expressions), (s ∷ below)) ((k_e, k_expressions), (k_s, k_below)) = (k_expressions, (record { items = k_s.items; from = k_s.from; filter = k_s.filter; group_by = pushed is_lawful s.group_by e.tree k_s.group_by k_e; having = k_s.having }, k_below))
+group_in_query ((e ∷ expressions), (s ∷ below)) ((k_e, k_expressions), (k_s, k_below)) = (k_expressions, (record { items = k_s.items; from = k_s.from; group_by = pushed is_lawful s.group_by e.tree k_s.group_by k_e }, k_below))
 group_in_query ([], s1) held = tt
 group_in_query ((e ∷ expressions), []) held = tt
 
-pub having_in_query : (x : List Built × List BuiltSelect) → Every LawfulBuilt x.0 × Every LawfulSelect x.1 → Then (λ (z : List Built × List BuiltSelect). Every LawfulBuilt z.0 × Every LawfulSelect z.1) (query.having x)
-having_in_query ((e ∷ expressions), (s ∷ below)) ((k_e, k_expressions), (k_s, k_below)) = (k_expressions, (record { items = k_s.items; from = k_s.from; filter = k_s.filter; group_by = k_s.group_by; having = k_e }, k_below))
-having_in_query ([], s1) held = tt
-having_in_query ((e ∷ expressions), []) held = tt
-
-pub select_body_in_query : (x : List BuiltSelect × List BuiltBody) → Every LawfulSelect x.0 × Every LawfulBody x.1 → Then (λ (z : List BuiltSelect × List BuiltBody). Every LawfulSelect z.0 × Every LawfulBody z.1) (query.select_body x)
-select_body_in_query ((s ∷ selects), below) ((k_s, k_selects), k_below) = (k_selects, (layer.select_body (roll-Select (record { distinct = s.distinct; items = s.items; from = s.from; filter = s.filter; group_by = s.group_by; having = s.having })) (layer.select s.distinct s.items s.from s.filter s.group_by s.having k_s.items k_s.from k_s.filter k_s.group_by k_s.having), k_below))
-select_body_in_query ([], s1) held = tt
+pub select_body_in_query : (x : List BuiltOptional × List BuiltSelect × List BuiltBody) → Every LawfulOptional x.0 × Every LawfulSelect x.1 × Every LawfulBody x.2 → Then (λ (z : List BuiltOptional × List BuiltSelect × List BuiltBody). Every LawfulOptional z.0 × Every LawfulSelect z.1 × Every LawfulBody z.2) (query.select_body x)
+select_body_in_query ((v ∷ w ∷ optional), (s ∷ selects), below) ((k_v, (k_w, k_optional)), (k_s, k_selects), k_below) = (k_optional, k_selects, (layer.select_body (roll-Select (record { distinct = s.distinct; items = s.items; from = s.from; filter = w.tree; group_by = s.group_by; having = v.tree })) (layer.select s.distinct s.items s.from w.tree s.group_by v.tree k_s.items k_s.from k_w k_s.group_by k_v), k_below))
+select_body_in_query ([], s1, s2) held = tt
+select_body_in_query ((v ∷ []), s1, s2) held = tt
+select_body_in_query ((v ∷ w ∷ optional), [], s2) held = tt
 
 pub begin_values_in_query : (token : Token) (x : List BuiltRows) → Every LawfulRows x → Then (λ (z : List BuiltRows). Every LawfulRows z) (query.begin_values token x)
 begin_values_in_query token below k_below = (refl, k_below)
@@ -483,7 +479,7 @@ begin_query_in_query ((b ∷ bodies), below) ((k_b, k_bodies), k_below) = any_de
 begin_query_in_query ([], s1) held = tt
 
 pub key_in_query : (descending : Bool) (x : List Built × List BuiltQuery) → Every LawfulBuilt x.0 × Every LawfulQuery x.1 → Then (λ (z : List Built × List BuiltQuery). Every LawfulBuilt z.0 × Every LawfulQuery z.1) (query.key descending x)
-key_in_query descending ((e ∷ expressions), (q ∷ below)) ((k_e, k_expressions), (k_q, k_below)) = let key = roll-SortKey (record { at = e.start; value = e.tree; descending = descending }) in any_depth (λ (z : List Built × List BuiltQuery). Every LawfulBuilt z.0 × Every LawfulQuery z.1) (over e.depth 0) (λ depth. (expressions, record q { order_by = q.order_by ++ key ∷ []; depth = greater q.depth depth } ∷ below)) (λ depth. (k_expressions, (record { body = k_q.body; order_by = pushed key_lawful q.order_by (roll-SortKey (record { at = e.start; value = e.tree; descending = descending })) k_q.order_by (layer.key e.start e.tree descending k_e); limit = k_q.limit }, k_below)))
+key_in_query descending ((e ∷ expressions), (q ∷ below)) ((k_e, k_expressions), (k_q, k_below)) = let key = roll-SortKey (record { at = e.start; value = e.tree; descending = descending }) in any_depth (λ (z : List Built × List BuiltQuery). Every LawfulBuilt z.0 × Every LawfulQuery z.1) (over e.depth 0) (λ depth. (expressions, record q { order_by = q.order_by ++ key ∷ []; depth = max q.depth depth } ∷ below)) (λ depth. (k_expressions, (record { body = k_q.body; order_by = pushed key_lawful q.order_by (roll-SortKey (record { at = e.start; value = e.tree; descending = descending })) k_q.order_by (layer.key e.start e.tree descending k_e); limit = k_q.limit }, k_below)))
 key_in_query descending ([], s1) held = tt
 key_in_query descending ((e ∷ expressions), []) held = tt
 
@@ -546,43 +542,35 @@ insert_query_in_change ([], s1, s2) held = tt
 insert_query_in_change ((t ∷ targets), [], s2) held = tt
 
 pub begin_update_in_change : (x : List Identifier × List (Option Identifier) × List Update) → Every LawfulName x.0 × Every LawfulAlias x.1 × Every LawfulUpdate x.2 → Then (λ (z : List Identifier × List (Option Identifier) × List Update). Every LawfulName z.0 × Every LawfulAlias z.1 × Every LawfulUpdate z.2) (change.begin_update x)
-begin_update_in_change ((table ∷ names), (alias ∷ aliases), below) ((k_table, k_names), (k_alias, k_aliases), k_below) = (k_names, k_aliases, (record { table = k_table; alias = k_alias; assignments = refl; filter = refl }, k_below))
+begin_update_in_change ((table ∷ names), (alias ∷ aliases), below) ((k_table, k_names), (k_alias, k_aliases), k_below) = (k_names, k_aliases, (record { table = k_table; alias = k_alias; assignments = refl }, k_below))
 begin_update_in_change ([], s1, s2) held = tt
 begin_update_in_change ((table ∷ names), [], s2) held = tt
 
 pub assign_in_change : (x : List Identifier × List Built × List Update) → Every LawfulName x.0 × Every LawfulBuilt x.1 × Every LawfulUpdate x.2 → Then (λ (z : List Identifier × List Built × List Update). Every LawfulName z.0 × Every LawfulBuilt z.1 × Every LawfulUpdate z.2) (change.assign x)
-assign_in_change ((column ∷ names), (e ∷ expressions), (u ∷ below)) ((k_column, k_names), (k_e, k_expressions), (k_u, k_below)) = (k_names, k_expressions, (record { table = k_u.table; alias = k_u.alias; assignments = pushed law.is_lawful_assignment u.assignments (record { column = column; value = value.Expression e.tree }) k_u.assignments (both (is_identifier column) (is_lawful e.tree) k_column k_e); filter = k_u.filter }, k_below))
+assign_in_change ((column ∷ names), (e ∷ expressions), (u ∷ below)) ((k_column, k_names), (k_e, k_expressions), (k_u, k_below)) = (k_names, k_expressions, (record { table = k_u.table; alias = k_u.alias; assignments = pushed law.is_lawful_assignment u.assignments (record { column = column; value = value.Expression e.tree }) k_u.assignments (both (is_identifier column) (is_lawful e.tree) k_column k_e) }, k_below))
 assign_in_change ([], s1, s2) held = tt
 assign_in_change ((column ∷ names), [], s2) held = tt
 assign_in_change ((column ∷ names), (e ∷ expressions), []) held = tt
 
 pub assign_default_in_change : (token : Token) (x : List Identifier × List Update) → Every LawfulName x.0 × Every LawfulUpdate x.1 → Then (λ (z : List Identifier × List Update). Every LawfulName z.0 × Every LawfulUpdate z.1) (change.assign_default token x)
-assign_default_in_change token ((column ∷ names), (u ∷ below)) ((k_column, k_names), (k_u, k_below)) = (k_names, (record { table = k_u.table; alias = k_u.alias; assignments = pushed law.is_lawful_assignment u.assignments (record { column = column; value = value.Default token.start }) k_u.assignments (both (is_identifier column) true k_column refl); filter = k_u.filter }, k_below))
+assign_default_in_change token ((column ∷ names), (u ∷ below)) ((k_column, k_names), (k_u, k_below)) = (k_names, (record { table = k_u.table; alias = k_u.alias; assignments = pushed law.is_lawful_assignment u.assignments (record { column = column; value = value.Default token.start }) k_u.assignments (both (is_identifier column) true k_column refl) }, k_below))
 assign_default_in_change token ([], s1) held = tt
 assign_default_in_change token ((column ∷ names), []) held = tt
 
-pub update_where_in_change : (x : List Built × List Update) → Every LawfulBuilt x.0 × Every LawfulUpdate x.1 → Then (λ (z : List Built × List Update). Every LawfulBuilt z.0 × Every LawfulUpdate z.1) (change.update_where x)
-update_where_in_change ((e ∷ expressions), (u ∷ below)) ((k_e, k_expressions), (k_u, k_below)) = (k_expressions, (record { table = k_u.table; alias = k_u.alias; assignments = k_u.assignments; filter = k_e }, k_below))
-update_where_in_change ([], s1) held = tt
-update_where_in_change ((e ∷ expressions), []) held = tt
-
-pub update_statement_in_change : (x : List Update × List Stmt) → Every LawfulUpdate x.0 × Every LawfulStatement x.1 → Then (λ (z : List Update × List Stmt). Every LawfulUpdate z.0 × Every LawfulStatement z.1) (change.update_statement x)
-update_statement_in_change ((u ∷ updates), below) ((k_u, k_updates), k_below) = (k_updates, (both (is_identifier u.table) (if_written is_identifier u.alias && (list_all law.is_lawful_assignment u.assignments && if_written is_lawful u.filter)) k_u.table (both (if_written is_identifier u.alias) (list_all law.is_lawful_assignment u.assignments && if_written is_lawful u.filter) k_u.alias (both (list_all law.is_lawful_assignment u.assignments) (if_written is_lawful u.filter) k_u.assignments k_u.filter)), k_below))
-update_statement_in_change ([], s1) held = tt
+pub update_statement_in_change : (x : List BuiltOptional × List Update × List Stmt) → Every LawfulOptional x.0 × Every LawfulUpdate x.1 × Every LawfulStatement x.2 → Then (λ (z : List BuiltOptional × List Update × List Stmt). Every LawfulOptional z.0 × Every LawfulUpdate z.1 × Every LawfulStatement z.2) (change.update_statement x)
+update_statement_in_change ((w ∷ optional), (u ∷ updates), below) ((k_w, k_optional), (k_u, k_updates), k_below) = (k_optional, k_updates, (both (is_identifier u.table) (if_written is_identifier u.alias && (list_all law.is_lawful_assignment u.assignments && if_written is_lawful w.tree)) k_u.table (both (if_written is_identifier u.alias) (list_all law.is_lawful_assignment u.assignments && if_written is_lawful w.tree) k_u.alias (both (list_all law.is_lawful_assignment u.assignments) (if_written is_lawful w.tree) k_u.assignments k_w)), k_below))
+update_statement_in_change ([], s1, s2) held = tt
+update_statement_in_change ((w ∷ optional), [], s2) held = tt
 
 pub begin_delete_in_change : (x : List Identifier × List (Option Identifier) × List Delete) → Every LawfulName x.0 × Every LawfulAlias x.1 × Every LawfulDelete x.2 → Then (λ (z : List Identifier × List (Option Identifier) × List Delete). Every LawfulName z.0 × Every LawfulAlias z.1 × Every LawfulDelete z.2) (change.begin_delete x)
-begin_delete_in_change ((table ∷ names), (alias ∷ aliases), below) ((k_table, k_names), (k_alias, k_aliases), k_below) = (k_names, k_aliases, (record { table = k_table; alias = k_alias; filter = refl }, k_below))
+begin_delete_in_change ((table ∷ names), (alias ∷ aliases), below) ((k_table, k_names), (k_alias, k_aliases), k_below) = (k_names, k_aliases, (record { table = k_table; alias = k_alias }, k_below))
 begin_delete_in_change ([], s1, s2) held = tt
 begin_delete_in_change ((table ∷ names), [], s2) held = tt
 
-pub delete_where_in_change : (x : List Built × List Delete) → Every LawfulBuilt x.0 × Every LawfulDelete x.1 → Then (λ (z : List Built × List Delete). Every LawfulBuilt z.0 × Every LawfulDelete z.1) (change.delete_where x)
-delete_where_in_change ((e ∷ expressions), (d ∷ below)) ((k_e, k_expressions), (k_d, k_below)) = (k_expressions, (record { table = k_d.table; alias = k_d.alias; filter = k_e }, k_below))
-delete_where_in_change ([], s1) held = tt
-delete_where_in_change ((e ∷ expressions), []) held = tt
-
-pub delete_statement_in_change : (x : List Delete × List Stmt) → Every LawfulDelete x.0 × Every LawfulStatement x.1 → Then (λ (z : List Delete × List Stmt). Every LawfulDelete z.0 × Every LawfulStatement z.1) (change.delete_statement x)
-delete_statement_in_change ((d ∷ deletes), below) ((k_d, k_deletes), k_below) = (k_deletes, (both (is_identifier d.table) (if_written is_identifier d.alias && if_written is_lawful d.filter) k_d.table (both (if_written is_identifier d.alias) (if_written is_lawful d.filter) k_d.alias k_d.filter), k_below))
-delete_statement_in_change ([], s1) held = tt
+pub delete_statement_in_change : (x : List BuiltOptional × List Delete × List Stmt) → Every LawfulOptional x.0 × Every LawfulDelete x.1 × Every LawfulStatement x.2 → Then (λ (z : List BuiltOptional × List Delete × List Stmt). Every LawfulOptional z.0 × Every LawfulDelete z.1 × Every LawfulStatement z.2) (change.delete_statement x)
+delete_statement_in_change ((w ∷ optional), (d ∷ deletes), below) ((k_w, k_optional), (k_d, k_deletes), k_below) = (k_optional, k_deletes, (both (is_identifier d.table) (if_written is_identifier d.alias && if_written is_lawful w.tree) k_d.table (both (if_written is_identifier d.alias) (if_written is_lawful w.tree) k_d.alias k_w), k_below))
+delete_statement_in_change ([], s1, s2) held = tt
+delete_statement_in_change ((w ∷ optional), [], s2) held = tt
 
 pub begin_lock_in_change : (x : List (List LockedTable)) → Every LawfulLocks x → Then (λ (z : List (List LockedTable)). Every LawfulLocks z) (change.begin_lock x)
 begin_lock_in_change below k_below = (refl, k_below)

@@ -4,8 +4,10 @@ pub mod CoveringMarks
 pub mod CoveringQueries
 pub mod CoveringStatements
 pub mod Covers
+mod Deepening
 pub mod Effects
 pub mod Heights
+pub mod Levels
 pub mod Lifting
 pub mod Marked
 pub mod Trees

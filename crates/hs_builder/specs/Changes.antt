@@ -1,5 +1,5 @@
 -- The steps that build statements which read or change rows, or lock tables.
-use Rattle.std.specs.Prelude.{ℕ, Bool, List, [], ◌∷◌, ◌++◌, map, Option, Some, None}
+use Rattle.std.specs.Prelude.{ℕ, Bool, List, [], ◌∷◌, ◌++◌, map, Option, None, max}
 use Rattle.hs_ast.specs.declared.change.Delete.{Delete}
 use Rattle.hs_ast.specs.declared.change.InsertSource.TheVariants as source
 use Rattle.hs_ast.specs.declared.change.LockedTable.{LockedTable}
@@ -16,12 +16,13 @@ use Rattle.hs_lexer.specs.declared.token.Token.{Token}
 use Rattle.hs_builder.specs.declared.part.Built.{Built}
 use Rattle.hs_builder.specs.declared.part.BuiltBody.{BuiltBody}
 use Rattle.hs_builder.specs.declared.part.BuiltQuery.{BuiltQuery}
+use Rattle.hs_builder.specs.declared.part.BuiltOptional.{BuiltOptional}
 use Rattle.hs_builder.specs.declared.part.BuiltTuple.{BuiltTuple}
 use Rattle.hs_builder.specs.declared.part.BuiltTuples.{BuiltTuples}
 use Rattle.hs_builder.specs.declared.part.InsertTarget.{InsertTarget}
 use Rattle.hs_builder.specs.Expressions.{query_of}
 use Rattle.hs_builder.specs.Queries.{body_at}
-use Rattle.hs_builder.specs.Steps.{Step, stands, wrong, greater}
+use Rattle.hs_builder.specs.Steps.{Step, stands, wrong}
 
 abbrev pub query_statement : List BuiltQuery × List Stmt → Step (List BuiltQuery × List Stmt)
 query_statement ((q ∷ queries), below) = stands (queries, statement.Query (query_of q) ∷ below)
@@ -45,7 +46,7 @@ abbrev pub begin_tuple : List BuiltTuple → Step (List BuiltTuple)
 begin_tuple below = stands (record { values = []; depth = 0 } ∷ below)
 
 abbrev pub tuple_value : List Built × List BuiltTuple → Step (List Built × List BuiltTuple)
-tuple_value ((e ∷ expressions), (t ∷ below)) = stands (expressions, record { values = t.values ++ value.Expression e.tree ∷ []; depth = greater t.depth e.depth } ∷ below)
+tuple_value ((e ∷ expressions), (t ∷ below)) = stands (expressions, record { values = t.values ++ value.Expression e.tree ∷ []; depth = max t.depth e.depth } ∷ below)
 tuple_value _ = wrong
 
 abbrev pub tuple_default : Token → List BuiltTuple → Step (List BuiltTuple)
@@ -53,7 +54,7 @@ tuple_default token (t ∷ below) = stands (record { values = t.values ++ value.
 tuple_default _ _ = wrong
 
 abbrev pub add_tuple : List BuiltTuple × List BuiltTuples → Step (List BuiltTuple × List BuiltTuples)
-add_tuple ((t ∷ tuples), (list ∷ below)) = stands (tuples, record { tuples = list.tuples ++ t.values ∷ []; depth = greater list.depth t.depth; at = list.at } ∷ below)
+add_tuple ((t ∷ tuples), (list ∷ below)) = stands (tuples, record { tuples = list.tuples ++ t.values ∷ []; depth = max list.depth t.depth; at = list.at } ∷ below)
 add_tuple _ = wrong
 
 abbrev pub with_value : NewValue → List Expression → List Expression
@@ -102,12 +103,9 @@ abbrev pub assign_default : Token → List Identifier × List Update → Step (L
 assign_default token ((column ∷ names), (u ∷ below)) = stands (names, assigned u column (value.Default token.start) ∷ below)
 assign_default _ _ = wrong
 
-abbrev pub update_where : List Built × List Update → Step (List Built × List Update)
-update_where ((e ∷ expressions), (u ∷ below)) = stands (expressions, record u { filter = Some e.tree } ∷ below)
-update_where _ = wrong
-
-abbrev pub update_statement : List Update × List Stmt → Step (List Update × List Stmt)
-update_statement ((u ∷ updates), below) = stands (updates, statement.Update u ∷ below)
+abbrev pub update_statement : List BuiltOptional × List Update × List Stmt → Step (List BuiltOptional × List Update × List Stmt)
+update_statement ((filter ∷ optional), (u ∷ updates), below) =
+    stands (optional, updates, statement.Update (record { table = u.table; alias = u.alias; assignments = u.assignments; filter = filter.tree }) ∷ below)
 update_statement _ = wrong
 
 -- ---- DELETE
@@ -116,12 +114,9 @@ abbrev pub begin_delete : List Identifier × List (Option Identifier) × List De
 begin_delete ((table ∷ names), (alias ∷ aliases), below) = stands (names, aliases, record { table = table; alias = alias; filter = None } ∷ below)
 begin_delete _ = wrong
 
-abbrev pub delete_where : List Built × List Delete → Step (List Built × List Delete)
-delete_where ((e ∷ expressions), (d ∷ below)) = stands (expressions, record d { filter = Some e.tree } ∷ below)
-delete_where _ = wrong
-
-abbrev pub delete_statement : List Delete × List Stmt → Step (List Delete × List Stmt)
-delete_statement ((d ∷ deletes), below) = stands (deletes, statement.Delete d ∷ below)
+abbrev pub delete_statement : List BuiltOptional × List Delete × List Stmt → Step (List BuiltOptional × List Delete × List Stmt)
+delete_statement ((filter ∷ optional), (d ∷ deletes), below) =
+    stands (optional, deletes, statement.Delete (record { table = d.table; alias = d.alias; filter = filter.tree }) ∷ below)
 delete_statement _ = wrong
 
 -- ---- LOCK TABLE

@@ -1,5 +1,5 @@
 -- The steps that build operators, predicates and subqueries. Each takes parts from the tops of stacks.
-use Rattle.std.specs.Prelude.{◌≡◌, ℕ, Bool, List, [], ◌∷◌, ◌++◌, Some, None, unwrap_or}
+use Rattle.std.specs.Prelude.{◌≡◌, ℕ, Bool, List, [], ◌∷◌, ◌++◌, Some, None, unwrap_or, max}
 use Rattle.hs_ast.specs.declared.expression.BinaryOperator.{BinaryOperator}
 use Rattle.hs_ast.specs.declared.expression.Expression.{roll-Expression}
 use Rattle.hs_ast.specs.declared.expression.ExpressionKind.{ExpressionKind}
@@ -11,10 +11,11 @@ use Rattle.hs_ast.specs.declared.word.Identifier.{Identifier}
 use Rattle.hs_builder.specs.declared.part.Built.{Built}
 use Rattle.hs_builder.specs.declared.part.BuiltBody.{BuiltBody}
 use Rattle.hs_builder.specs.declared.part.BuiltList.{BuiltList}
+use Rattle.hs_builder.specs.declared.part.BuiltOptional.{BuiltOptional}
 use Rattle.hs_builder.specs.declared.part.BuiltQuery.{BuiltQuery}
 use Rattle.hs_builder.specs.declared.part.PlacedLiteral.{PlacedLiteral}
 use Rattle.hs_builder.specs.declared.part.PlacedText.{PlacedText}
-use Rattle.hs_builder.specs.Steps.{Step, stands, wrong, greater, over, at_depth}
+use Rattle.hs_builder.specs.Steps.{Step, stands, wrong, over, at_depth}
 
 -- an expression with its place, that of its first byte with its parentheses, and its depth
 abbrev pub built_from : ℕ → ℕ → ExpressionKind → ℕ → Built
@@ -67,7 +68,7 @@ is_null _ _ = wrong
 
 abbrev pub between : List Bool × List Built → Step (List Bool × List Built)
 between ((negated ∷ flags), (high ∷ low ∷ a ∷ below)) =
-    at_depth (over a.depth (greater low.depth high.depth)) (λ depth. (flags, built a.start (kind.Between a.tree negated low.tree high.tree) depth ∷ below))
+    at_depth (over a.depth (max low.depth high.depth)) (λ depth. (flags, built a.start (kind.Between a.tree negated low.tree high.tree) depth ∷ below))
 between _ = wrong
 
 abbrev pub like : List Bool × List Built → Step (List Bool × List Built)
@@ -116,5 +117,14 @@ first ((e ∷ expressions), lists) = stands (expressions, record { trees = e.tre
 first _ = wrong
 
 abbrev pub next : List Built × List BuiltList → Step (List Built × List BuiltList)
-next ((e ∷ expressions), (list ∷ below)) = stands (expressions, record { trees = list.trees ++ e.tree ∷ []; depth = greater list.depth e.depth } ∷ below)
+next ((e ∷ expressions), (list ∷ below)) = stands (expressions, record { trees = list.trees ++ e.tree ∷ []; depth = max list.depth e.depth } ∷ below)
 next _ = wrong
+
+-- ---- what may be left out
+
+abbrev pub written : List Built × List BuiltOptional → Step (List Built × List BuiltOptional)
+written ((e ∷ expressions), below) = stands (expressions, record { tree = Some e.tree; depth = e.depth } ∷ below)
+written _ = wrong
+
+abbrev pub unwritten : List BuiltOptional → Step (List BuiltOptional)
+unwritten below = stands (record { tree = None; depth = 0 } ∷ below)

@@ -1,5 +1,5 @@
 -- The steps that build what begins with a word of its own: CASE, CAST, functions and aggregates.
-use Rattle.std.specs.Prelude.{ℕ, Bool, List, [], ◌∷◌, ◌++◌, Some, None}
+use Rattle.std.specs.Prelude.{ℕ, Bool, List, [], ◌∷◌, ◌++◌, Some, None, max}
 use Rattle.hs_ast.specs.declared.definition.DataType.{DataType}
 use Rattle.hs_ast.specs.declared.expression.Aggregate.{Aggregate}
 use Rattle.hs_ast.specs.declared.expression.CaseArm.{roll-CaseArm}
@@ -11,28 +11,26 @@ use Rattle.hs_lexer.specs.declared.token.Token.{Token}
 use Rattle.hs_builder.specs.declared.part.Built.{Built}
 use Rattle.hs_builder.specs.declared.part.BuiltCase.{BuiltCase}
 use Rattle.hs_builder.specs.declared.part.BuiltList.{BuiltList}
+use Rattle.hs_builder.specs.declared.part.BuiltOptional.{BuiltOptional}
 use Rattle.hs_builder.specs.Expressions.{built}
-use Rattle.hs_builder.specs.Steps.{Step, stands, wrong, greater, over, at_depth}
+use Rattle.hs_builder.specs.Steps.{Step, stands, wrong, over, at_depth}
 
 abbrev pub cast : List ℕ × List DataType × List Built → Step (List ℕ × List DataType × List Built)
 cast ((at ∷ places), (t ∷ types), (a ∷ below)) = at_depth (over a.depth 0) (λ depth. (places, types, built at (kind.Cast a.tree t) depth ∷ below))
 cast _ = wrong
 
 abbrev pub begin_case : Token → List BuiltCase → Step (List BuiltCase)
-begin_case token below = stands (record { arms = []; otherwise = None; depth = 0; at = token.start } ∷ below)
+begin_case token below = stands (record { arms = []; depth = 0; at = token.start } ∷ below)
 
 abbrev pub arm : List BuiltCase × List Built → Step (List BuiltCase × List Built)
 arm ((c ∷ cases), (value ∷ test ∷ below)) =
     let arm = roll-CaseArm (record { test = test.tree; value = value.tree }) in
-    stands (record { arms = c.arms ++ arm ∷ []; otherwise = c.otherwise; depth = greater c.depth (greater test.depth value.depth); at = c.at } ∷ cases, below)
+    stands (record { arms = c.arms ++ arm ∷ []; depth = max c.depth (max test.depth value.depth); at = c.at } ∷ cases, below)
 arm _ = wrong
 
-abbrev pub otherwise : List BuiltCase × List Built → Step (List BuiltCase × List Built)
-otherwise ((c ∷ cases), (e ∷ below)) = stands (record { arms = c.arms; otherwise = Some e.tree; depth = greater c.depth e.depth; at = c.at } ∷ cases, below)
-otherwise _ = wrong
-
-abbrev pub end_case : List BuiltCase × List Built → Step (List BuiltCase × List Built)
-end_case ((c ∷ cases), below) = at_depth (over c.depth 0) (λ depth. (cases, built c.at (kind.Case c.arms c.otherwise) depth ∷ below))
+abbrev pub end_case : List BuiltOptional × List BuiltCase × List Built → Step (List BuiltOptional × List BuiltCase × List Built)
+end_case ((otherwise ∷ optional), (c ∷ cases), below) =
+    at_depth (over c.depth otherwise.depth) (λ depth. (optional, cases, built c.at (kind.Case c.arms otherwise.tree) depth ∷ below))
 end_case _ = wrong
 
 abbrev pub call : Function → List ℕ × List Built × List BuiltList → Step (List ℕ × List Built × List BuiltList)
@@ -47,7 +45,7 @@ substring _ = wrong
 
 abbrev pub substring_for : List ℕ × List Built → Step (List ℕ × List Built)
 substring_for ((at ∷ places), (count ∷ start ∷ text ∷ below)) =
-    at_depth (over text.depth (greater start.depth count.depth)) (λ depth. (places, built at (kind.Substring text.tree start.tree (Some count.tree)) depth ∷ below))
+    at_depth (over text.depth (max start.depth count.depth)) (λ depth. (places, built at (kind.Substring text.tree start.tree (Some count.tree)) depth ∷ below))
 substring_for _ = wrong
 
 abbrev pub trim : List ℕ × List TrimForm × List Built → Step (List ℕ × List TrimForm × List Built)

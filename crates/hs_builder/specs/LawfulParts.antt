@@ -3,7 +3,7 @@
 use Rattle.std.specs.Prelude.{◌≡◌, ℕ, Bool, true, nat_le, List, [], ◌∷◌, Option}
 use Rattle.std.specs.List.{list_all}
 use Rattle.hs_ast.specs.Lawful as law
-use Rattle.hs_ast.specs.Lawful.{is_lawful, is_lawful_query, is_identifier, if_written}
+use Rattle.hs_ast.specs.Lawful.{is_lawful, is_identifier, if_written}
 use Rattle.hs_ast.specs.declared.change.Delete.{Delete}
 use Rattle.hs_ast.specs.declared.change.LockedTable.{LockedTable}
 use Rattle.hs_ast.specs.declared.change.Update.{Update}
@@ -41,6 +41,7 @@ use Rattle.hs_builder.specs.declared.part.BuiltBody.{BuiltBody}
 use Rattle.hs_builder.specs.declared.part.BuiltCase.{BuiltCase}
 use Rattle.hs_builder.specs.declared.part.BuiltFrom.{BuiltFrom}
 use Rattle.hs_builder.specs.declared.part.BuiltList.{BuiltList}
+use Rattle.hs_builder.specs.declared.part.BuiltOptional.{BuiltOptional}
 use Rattle.hs_builder.specs.declared.part.BuiltQuery.{BuiltQuery}
 use Rattle.hs_builder.specs.declared.part.BuiltRows.{BuiltRows}
 use Rattle.hs_builder.specs.declared.part.BuiltSelect.{BuiltSelect}
@@ -123,16 +124,16 @@ LawfulBuilt b = is_lawful b.tree ≡ true
 abbrev pub LawfulList : BuiltList → Type 0
 LawfulList l = list_all is_lawful l.trees ≡ true
 
+abbrev pub LawfulOptional : BuiltOptional → Type 0
+LawfulOptional o = if_written is_lawful o.tree ≡ true
+
 pub record LawfulCase (c : BuiltCase) : Type 0 where
   pub arms : list_all arm_lawful c.arms ≡ true
-  pub otherwise : if_written is_lawful c.otherwise ≡ true
 
 pub record LawfulSelect (s : BuiltSelect) : Type 0 where
   pub items : list_all item_lawful s.items ≡ true
   pub from : list_all from_lawful s.from ≡ true
-  pub filter : if_written is_lawful s.filter ≡ true
   pub group_by : list_all is_lawful s.group_by ≡ true
-  pub having : if_written is_lawful s.having ≡ true
 
 abbrev pub LawfulTable : BuiltTable → Type 0
 LawfulTable t = table_lawful t.table ≡ true
@@ -162,16 +163,15 @@ LawfulTuple t = list_all law.is_lawful_value t.values ≡ true
 abbrev pub LawfulTuples : BuiltTuples → Type 0
 LawfulTuples t = list_all (list_all law.is_lawful_value) t.tuples ≡ true
 
+-- an UPDATE and a DELETE without WHERE
 pub record LawfulUpdate (u : Update) : Type 0 where
   pub table : is_identifier u.table ≡ true
   pub alias : if_written is_identifier u.alias ≡ true
   pub assignments : list_all law.is_lawful_assignment u.assignments ≡ true
-  pub filter : if_written is_lawful u.filter ≡ true
 
 pub record LawfulDelete (d : Delete) : Type 0 where
   pub table : is_identifier d.table ≡ true
   pub alias : if_written is_identifier d.alias ≡ true
-  pub filter : if_written is_lawful d.filter ≡ true
 
 abbrev pub LawfulLocks : List LockedTable → Type 0
 LawfulLocks locks = list_all law.is_lawful_lock locks ≡ true
@@ -217,6 +217,7 @@ pub record ExpressionsAreLawful (es : Expressions) : Type 0 where
   pub lists : Every LawfulList es.lists
   pub cases : Every LawfulCase es.cases
   pub counts : Every LawfulCount es.counts
+  pub optional : Every LawfulOptional es.optional
 
 pub record QueriesAreLawful (qs : Queries) : Type 0 where
   pub selects : Every LawfulSelect qs.selects
@@ -307,5 +308,5 @@ IsFit text token _ p = Unit {0}
 -- what stands behind a step is lawful
 abbrev pub IsLawfulBehind : Step Parts → Type 0
 IsLawfulBehind (stands p) = AreLawful p
-IsLawfulBehind deep = Unit {0}
+IsLawfulBehind (deep p) = AreLawful p
 IsLawfulBehind wrong = Unit {0}

@@ -80,13 +80,14 @@ expression_step e.Digits (l, es, qs) = lift (leaves.digits (l.texts, es.counts))
 expression_step (e.Interval sign unit) (l, es, qs) = lift (expression.interval sign unit (es.whole, es.counts)) (λ x. (l, record es { whole = x.0; counts = x.1 }, qs))
 expression_step e.First (l, es, qs) = lift (expression.first (es.whole, es.lists)) (λ x. (l, record es { whole = x.0; lists = x.1 }, qs))
 expression_step e.Next (l, es, qs) = lift (expression.next (es.whole, es.lists)) (λ x. (l, record es { whole = x.0; lists = x.1 }, qs))
+expression_step e.Written (l, es, qs) = lift (expression.written (es.whole, es.optional)) (λ x. (l, record es { whole = x.0; optional = x.1 }, qs))
+expression_step e.Unwritten (l, es, qs) = lift (expression.unwritten es.optional) (λ x. (l, record es { optional = x }, qs))
 
 abbrev pub function_step : Token → FunctionMark → Leaves × Expressions → Step (Leaves × Expressions)
 function_step token f.Cast (l, es) = lift (function.cast (l.places, l.types, es.whole)) (λ x. (record l { places = x.0; types = x.1 }, record es { whole = x.2 }))
 function_step token f.Case (l, es) = lift (function.begin_case token es.cases) (λ x. (l, record es { cases = x }))
 function_step token f.Arm (l, es) = lift (function.arm (es.cases, es.whole)) (λ x. (l, record es { cases = x.0; whole = x.1 }))
-function_step token f.Else (l, es) = lift (function.otherwise (es.cases, es.whole)) (λ x. (l, record es { cases = x.0; whole = x.1 }))
-function_step token f.End (l, es) = lift (function.end_case (es.cases, es.whole)) (λ x. (l, record es { cases = x.0; whole = x.1 }))
+function_step token f.End (l, es) = lift (function.end_case (es.optional, es.cases, es.whole)) (λ x. (l, record es { optional = x.0; cases = x.1; whole = x.2 }))
 function_step token (f.Call name) (l, es) = lift (function.call name (l.places, es.whole, es.lists)) (λ x. (record l { places = x.0 }, record es { whole = x.1; lists = x.2 }))
 function_step token f.Substring (l, es) = lift (function.substring (l.places, es.whole)) (λ x. (record l { places = x.0 }, record es { whole = x.1 }))
 function_step token f.SubstringFor (l, es) = lift (function.substring_for (l.places, es.whole)) (λ x. (record l { places = x.0 }, record es { whole = x.1 }))
@@ -108,10 +109,8 @@ query_step token q.From (l, es, qs) = lift (query.begin_from (qs.tables, qs.from
 query_step token (q.Join outer) (l, es, qs) = lift (query.join_on outer (es.whole, qs.tables, qs.froms)) (λ x. (l, record es { whole = x.0 }, record qs { tables = x.1; froms = x.2 }))
 query_step token q.CrossJoin (l, es, qs) = lift (query.cross_join (qs.tables, qs.froms)) (λ x. (l, es, record qs { tables = x.0; froms = x.1 }))
 query_step token q.AddFrom (l, es, qs) = lift (query.add_from (qs.froms, qs.selects)) (λ x. (l, es, record qs { froms = x.0; selects = x.1 }))
-query_step token q.Where (l, es, qs) = lift (query.filter (es.whole, qs.selects)) (λ x. (l, record es { whole = x.0 }, record qs { selects = x.1 }))
 query_step token q.Group (l, es, qs) = lift (query.group (es.whole, qs.selects)) (λ x. (l, record es { whole = x.0 }, record qs { selects = x.1 }))
-query_step token q.Having (l, es, qs) = lift (query.having (es.whole, qs.selects)) (λ x. (l, record es { whole = x.0 }, record qs { selects = x.1 }))
-query_step token q.SelectBody (l, es, qs) = lift (query.select_body (qs.selects, qs.bodies)) (λ x. (l, es, record qs { selects = x.0; bodies = x.1 }))
+query_step token q.SelectBody (l, es, qs) = lift (query.select_body (es.optional, qs.selects, qs.bodies)) (λ x. (l, record es { optional = x.0 }, record qs { selects = x.1; bodies = x.2 }))
 query_step token q.Values (l, es, qs) = lift (query.begin_values token qs.rows) (λ x. (l, es, record qs { rows = x }))
 query_step token q.Row (l, es, qs) = lift (query.row (es.lists, qs.rows)) (λ x. (l, record es { lists = x.0 }, record qs { rows = x.1 }))
 query_step token q.ValuesBody (l, es, qs) = lift (query.values_body (qs.rows, qs.bodies)) (λ x. (l, es, record qs { rows = x.0; bodies = x.1 }))
@@ -137,11 +136,9 @@ change_step token c.InsertQuery p = lift (change.insert_query (p.changes.targets
 change_step token c.Update p = lift (change.begin_update (p.leaves.names, p.leaves.aliases, p.changes.updates)) (λ x. record p { leaves = record p.leaves { names = x.0; aliases = x.1 }; changes = record p.changes { updates = x.2 } })
 change_step token c.Assign p = lift (change.assign (p.leaves.names, p.expressions.whole, p.changes.updates)) (λ x. record p { leaves = record p.leaves { names = x.0 }; expressions = record p.expressions { whole = x.1 }; changes = record p.changes { updates = x.2 } })
 change_step token c.AssignDefault p = lift (change.assign_default token (p.leaves.names, p.changes.updates)) (λ x. record p { leaves = record p.leaves { names = x.0 }; changes = record p.changes { updates = x.1 } })
-change_step token c.UpdateWhere p = lift (change.update_where (p.expressions.whole, p.changes.updates)) (λ x. record p { expressions = record p.expressions { whole = x.0 }; changes = record p.changes { updates = x.1 } })
-change_step token c.UpdateStatement p = lift (change.update_statement (p.changes.updates, p.statements)) (λ x. record p { changes = record p.changes { updates = x.0 }; statements = x.1 })
+change_step token c.UpdateStatement p = lift (change.update_statement (p.expressions.optional, p.changes.updates, p.statements)) (λ x. record p { expressions = record p.expressions { optional = x.0 }; changes = record p.changes { updates = x.1 }; statements = x.2 })
 change_step token c.Delete p = lift (change.begin_delete (p.leaves.names, p.leaves.aliases, p.changes.deletes)) (λ x. record p { leaves = record p.leaves { names = x.0; aliases = x.1 }; changes = record p.changes { deletes = x.2 } })
-change_step token c.DeleteWhere p = lift (change.delete_where (p.expressions.whole, p.changes.deletes)) (λ x. record p { expressions = record p.expressions { whole = x.0 }; changes = record p.changes { deletes = x.1 } })
-change_step token c.DeleteStatement p = lift (change.delete_statement (p.changes.deletes, p.statements)) (λ x. record p { changes = record p.changes { deletes = x.0 }; statements = x.1 })
+change_step token c.DeleteStatement p = lift (change.delete_statement (p.expressions.optional, p.changes.deletes, p.statements)) (λ x. record p { expressions = record p.expressions { optional = x.0 }; changes = record p.changes { deletes = x.1 }; statements = x.2 })
 change_step token c.Lock p = lift (change.begin_lock p.changes.locks) (λ x. record p { changes = record p.changes { locks = x } })
 change_step token (c.Locked write) p = lift (change.locked write (p.leaves.names, p.changes.locks)) (λ x. record p { leaves = record p.leaves { names = x.0 }; changes = record p.changes { locks = x.1 } })
 change_step token c.LockStatement p = lift (change.lock_statement (p.changes.locks, p.statements)) (λ x. record p { changes = record p.changes { locks = x.0 }; statements = x.1 })
@@ -210,7 +207,7 @@ step text token here (mark.Session m) p = session_step m p
 abbrev pub no_parts : Parts
 no_parts = record {
   leaves = record { places = []; names = []; name_lists = []; aliases = []; flags = []; numbers = []; texts = []; literals = []; types = [] };
-  expressions = record { whole = []; lists = []; cases = []; forms = []; fields = []; counts = [] };
+  expressions = record { whole = []; lists = []; cases = []; forms = []; fields = []; counts = []; optional = [] };
   queries = record { selects = []; tables = []; froms = []; rows = []; bodies = []; whole = [] };
   changes = record { targets = []; tuples = []; tuple_lists = []; updates = []; deletes = []; locks = [] };
   definitions = record { tables = []; columns = []; headers = []; keys = []; actions = []; constraints = [] };

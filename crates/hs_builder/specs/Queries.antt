@@ -1,5 +1,5 @@
 -- The steps that build queries.
-use Rattle.std.specs.Prelude.{ℕ, Bool, true, false, List, [], ◌∷◌, ◌++◌, Option, Some, None, unwrap_or}
+use Rattle.std.specs.Prelude.{ℕ, Bool, true, false, List, [], ◌∷◌, ◌++◌, Option, Some, None, unwrap_or, max}
 use Rattle.hs_ast.specs.declared.expression.Expression.{Expression}
 use Rattle.hs_ast.specs.declared.query.FromItem.{roll-FromItem}
 use Rattle.hs_ast.specs.declared.query.Join.{Join}
@@ -20,19 +20,20 @@ use Rattle.hs_builder.specs.declared.part.Built.{Built}
 use Rattle.hs_builder.specs.declared.part.BuiltBody.{BuiltBody}
 use Rattle.hs_builder.specs.declared.part.BuiltFrom.{BuiltFrom}
 use Rattle.hs_builder.specs.declared.part.BuiltList.{BuiltList}
+use Rattle.hs_builder.specs.declared.part.BuiltOptional.{BuiltOptional}
 use Rattle.hs_builder.specs.declared.part.BuiltQuery.{BuiltQuery}
 use Rattle.hs_builder.specs.declared.part.BuiltRows.{BuiltRows}
 use Rattle.hs_builder.specs.declared.part.BuiltSelect.{BuiltSelect}
 use Rattle.hs_builder.specs.declared.part.BuiltTable.{BuiltTable}
 use Rattle.hs_builder.specs.declared.part.PlacedNumber.{PlacedNumber}
 use Rattle.hs_builder.specs.Expressions.{query_of}
-use Rattle.hs_builder.specs.Steps.{Step, stands, wrong, greater, over, at_depth, natural}
+use Rattle.hs_builder.specs.Steps.{Step, stands, wrong, over, at_depth, natural}
 
 -- ---- SELECT
 
 abbrev pub begin_select : List ℕ × List Bool × List BuiltSelect → Step (List ℕ × List Bool × List BuiltSelect)
 begin_select ((at ∷ places), (distinct ∷ flags), below) =
-    stands (places, flags, record { distinct = distinct; items = []; from = []; filter = None; group_by = []; having = None; depth = 0; at = at } ∷ below)
+    stands (places, flags, record { distinct = distinct; items = []; from = []; group_by = []; depth = 0; at = at } ∷ below)
 begin_select _ = wrong
 
 abbrev pub every : Token → List BuiltSelect → Step (List BuiltSelect)
@@ -42,25 +43,17 @@ every _ _ = wrong
 -- an item begins with its parentheses
 abbrev pub item : List (Option Identifier) × List Built × List BuiltSelect → Step (List (Option Identifier) × List Built × List BuiltSelect)
 item ((alias ∷ aliases), (e ∷ expressions), (s ∷ below)) =
-    stands (aliases, expressions, record s { items = s.items ++ shown.One e.start e.tree alias ∷ []; depth = greater s.depth e.depth } ∷ below)
+    stands (aliases, expressions, record s { items = s.items ++ shown.One e.start e.tree alias ∷ []; depth = max s.depth e.depth } ∷ below)
 item _ = wrong
 
 abbrev pub add_from : List BuiltFrom × List BuiltSelect → Step (List BuiltFrom × List BuiltSelect)
 add_from ((f ∷ froms), (s ∷ below)) =
-    stands (froms, record s { from = s.from ++ roll-FromItem (record { table = f.table; joins = f.joins }) ∷ []; depth = greater s.depth f.depth } ∷ below)
+    stands (froms, record s { from = s.from ++ roll-FromItem (record { table = f.table; joins = f.joins }) ∷ []; depth = max s.depth f.depth } ∷ below)
 add_from _ = wrong
 
-abbrev pub filter : List Built × List BuiltSelect → Step (List Built × List BuiltSelect)
-filter ((e ∷ expressions), (s ∷ below)) = stands (expressions, record s { filter = Some e.tree; depth = greater s.depth e.depth } ∷ below)
-filter _ = wrong
-
 abbrev pub group : List Built × List BuiltSelect → Step (List Built × List BuiltSelect)
-group ((e ∷ expressions), (s ∷ below)) = stands (expressions, record s { group_by = s.group_by ++ e.tree ∷ []; depth = greater s.depth e.depth } ∷ below)
+group ((e ∷ expressions), (s ∷ below)) = stands (expressions, record s { group_by = s.group_by ++ e.tree ∷ []; depth = max s.depth e.depth } ∷ below)
 group _ = wrong
-
-abbrev pub having : List Built × List BuiltSelect → Step (List Built × List BuiltSelect)
-having ((e ∷ expressions), (s ∷ below)) = stands (expressions, record s { having = Some e.tree; depth = greater s.depth e.depth } ∷ below)
-having _ = wrong
 
 -- ---- FROM
 
@@ -82,11 +75,11 @@ join_of false = join.Inner
 
 abbrev pub join_on : Bool → List Built × List BuiltTable × List BuiltFrom → Step (List Built × List BuiltTable × List BuiltFrom)
 join_on outer ((e ∷ expressions), (t ∷ tables), (f ∷ below)) =
-    stands (expressions, tables, record f { joins = f.joins ++ join_of outer t.table e.tree ∷ []; depth = greater f.depth (greater t.depth e.depth) } ∷ below)
+    stands (expressions, tables, record f { joins = f.joins ++ join_of outer t.table e.tree ∷ []; depth = max f.depth (max t.depth e.depth) } ∷ below)
 join_on _ _ = wrong
 
 abbrev pub cross_join : List BuiltTable × List BuiltFrom → Step (List BuiltTable × List BuiltFrom)
-cross_join ((t ∷ tables), (f ∷ below)) = stands (tables, record f { joins = f.joins ++ join.Cross t.table ∷ []; depth = greater f.depth t.depth } ∷ below)
+cross_join ((t ∷ tables), (f ∷ below)) = stands (tables, record f { joins = f.joins ++ join.Cross t.table ∷ []; depth = max f.depth t.depth } ∷ below)
 cross_join _ = wrong
 
 -- ---- bodies
@@ -95,17 +88,18 @@ cross_join _ = wrong
 abbrev pub body_at : ℕ → QueryBody → ℕ → BuiltBody
 body_at at tree depth = record { tree = tree; depth = depth; at = at; bracket = None }
 
-abbrev pub select_body : List BuiltSelect × List BuiltBody → Step (List BuiltSelect × List BuiltBody)
-select_body ((s ∷ selects), below) =
-    let select = roll-Select (record { distinct = s.distinct; items = s.items; from = s.from; filter = s.filter; group_by = s.group_by; having = s.having }) in
-    stands (selects, body_at s.at (body.Select select) s.depth ∷ below)
+-- of the parts that may be left out HAVING's is the topmost, and WHERE's the next one
+abbrev pub select_body : List BuiltOptional × List BuiltSelect × List BuiltBody → Step (List BuiltOptional × List BuiltSelect × List BuiltBody)
+select_body ((having ∷ filter ∷ optional), (s ∷ selects), below) =
+    let select = roll-Select (record { distinct = s.distinct; items = s.items; from = s.from; filter = filter.tree; group_by = s.group_by; having = having.tree }) in
+    stands (optional, selects, body_at s.at (body.Select select) (max s.depth (max filter.depth having.depth)) ∷ below)
 select_body _ = wrong
 
 abbrev pub begin_values : Token → List BuiltRows → Step (List BuiltRows)
 begin_values token below = stands (record { rows = []; depth = 0; at = token.start } ∷ below)
 
 abbrev pub row : List BuiltList × List BuiltRows → Step (List BuiltList × List BuiltRows)
-row ((list ∷ lists), (v ∷ below)) = stands (lists, record v { rows = v.rows ++ roll-ValuesRow (record { values = list.trees }) ∷ []; depth = greater v.depth list.depth } ∷ below)
+row ((list ∷ lists), (v ∷ below)) = stands (lists, record v { rows = v.rows ++ roll-ValuesRow (record { values = list.trees }) ∷ []; depth = max v.depth list.depth } ∷ below)
 row _ = wrong
 
 abbrev pub values_body : List BuiltRows × List BuiltBody → Step (List BuiltRows × List BuiltBody)
@@ -130,7 +124,7 @@ begin_query _ = wrong
 abbrev pub key : Bool → List Built × List BuiltQuery → Step (List Built × List BuiltQuery)
 key descending ((e ∷ expressions), (q ∷ below)) =
     let key = roll-SortKey (record { at = e.start; value = e.tree; descending = descending }) in
-    at_depth (over e.depth 0) (λ depth. (expressions, record q { order_by = q.order_by ++ key ∷ []; depth = greater q.depth depth } ∷ below))
+    at_depth (over e.depth 0) (λ depth. (expressions, record q { order_by = q.order_by ++ key ∷ []; depth = max q.depth depth } ∷ below))
 key _ _ = wrong
 
 abbrev pub limit : List PlacedNumber × List BuiltQuery → Step (List PlacedNumber × List BuiltQuery)

@@ -3,7 +3,7 @@ use std::alloc::AllocError;
 
 #[derive(Clone, Copy, Debug, PartialEq, Eq)]
 pub enum BuildFault {
-    /// The tree would be deeper than 256.
+    /// The tree is deeper than 256.
     Depth,
     /// Memory was refused.
     NoMemory,

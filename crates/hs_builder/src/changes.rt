@@ -7,7 +7,9 @@ ghost use Rattle.hs_builder.specs.declared.build_fault.BuildFault.TheVariants.{N
 use crate::build_fault::BuildFault;
 use crate::depth::deepest;
 use crate::expressions::pop_query;
-use crate::part::{Built, BuiltBody, BuiltQuery, BuiltTuple, BuiltTuples, InsertTarget};
+use crate::part::{
+    Built, BuiltBody, BuiltOptional, BuiltQuery, BuiltTuple, BuiltTuples, InsertTarget,
+};
 use crate::queries::put_body;
 use crate::stack::Stack;
 use hs_ast::{
@@ -15,7 +17,7 @@ use hs_ast::{
     QueryBody, Stmt, Update, ValuesRow,
 };
 use hs_lexer::Token;
-use sqlite_items::Items;
+use sqlite_items::{Boxed, Items};
 use std::alloc::Global;
 
 pub fn query_statement(
@@ -244,26 +246,31 @@ pub fn assign_default(
     updates.push(update)
 }
 
-pub fn update_where(
-    expressions: &mut Stack<Built>,
-    updates: &mut Stack<Update>,
-) -> Result<(), BuildFault>
-    ensures { Gives (spec.update_where (expressions.old, updates.old)) result (expressions.new, updates.new) }
-{
-    let e = expressions.pop()?;
-    let mut update = updates.pop()?;
-    update.filter = Some(e.tree.into_inner());
-    updates.push(update)
-}
-
 pub fn update_statement(
+    optional: &mut Stack<BuiltOptional>,
     updates: &mut Stack<Update>,
     statements: &mut Stack<Stmt>,
 ) -> Result<(), BuildFault>
-    ensures { Gives (spec.update_statement (updates.old, statements.old)) result (updates.new, statements.new) }
+    ensures { Gives (spec.update_statement (optional.old, updates.old, statements.old)) result (optional.new, updates.new, statements.new) }
 {
+    let filter = optional.pop()?;
     let update = updates.pop()?;
-    statements.push(Stmt::Update(update))
+    statements.push(Stmt::Update(Update {
+        table: update.table,
+        alias: update.alias,
+        assignments: update.assignments,
+        filter: unboxed(filter.tree),
+    }))
+}
+
+/// An expression without its box.
+fn unboxed(tree: Option<Boxed<Expression>>) -> Option<Expression>
+    ensures { result ≡ tree }
+{
+    match tree {
+        Some(tree) => Some(tree.into_inner()),
+        None => None,
+    }
 }
 
 // ---- DELETE
@@ -284,26 +291,20 @@ pub fn begin_delete(
     })
 }
 
-pub fn delete_where(
-    expressions: &mut Stack<Built>,
-    deletes: &mut Stack<Delete>,
-) -> Result<(), BuildFault>
-    ensures { Gives (spec.delete_where (expressions.old, deletes.old)) result (expressions.new, deletes.new) }
-{
-    let e = expressions.pop()?;
-    let mut delete = deletes.pop()?;
-    delete.filter = Some(e.tree.into_inner());
-    deletes.push(delete)
-}
-
 pub fn delete_statement(
+    optional: &mut Stack<BuiltOptional>,
     deletes: &mut Stack<Delete>,
     statements: &mut Stack<Stmt>,
 ) -> Result<(), BuildFault>
-    ensures { Gives (spec.delete_statement (deletes.old, statements.old)) result (deletes.new, statements.new) }
+    ensures { Gives (spec.delete_statement (optional.old, deletes.old, statements.old)) result (optional.new, deletes.new, statements.new) }
 {
+    let filter = optional.pop()?;
     let delete = deletes.pop()?;
-    statements.push(Stmt::Delete(delete))
+    statements.push(Stmt::Delete(Delete {
+        table: delete.table,
+        alias: delete.alias,
+        filter: unboxed(filter.tree),
+    }))
 }
 
 // ---- LOCK TABLE

@@ -1,7 +1,7 @@
 // The steps of leaves, expressions and calls of functions, each by its mark.
 ghost use Rattle.std.specs.Prelude.{◌≡◌, ◌+◌, ◌-◌, ◌<◌, ◌≤◌, MatchResult, MatchOption, length, slice_get, Some, None};
 ghost use Rattle.hs_builder.specs.MarkSteps.{leaf_step, expression_step, function_step};
-ghost use Rattle.hs_builder.specs.Steps.{Gives, Answers};
+ghost use Rattle.hs_builder.specs.Steps.{Gives};
 
 use crate::build_fault::BuildFault;
 use crate::mark::{ExpressionMark, FunctionMark, LeafMark};
@@ -171,6 +171,11 @@ pub fn apply_expression(
             &mut expressions.lists,
         ),
         ExpressionMark::Next => expressions::next(&mut expressions.whole, &mut expressions.lists),
+        ExpressionMark::Written => expressions::written(
+            &mut expressions.whole,
+            &mut expressions.optional,
+        ),
+        ExpressionMark::Unwritten => expressions::unwritten(&mut expressions.optional),
     }
 }
 
@@ -193,9 +198,9 @@ pub fn apply_function(
         ),
         FunctionMark::Case => functions::begin_case(alloc, token, &mut expressions.cases),
         FunctionMark::Arm => functions::arm(&mut expressions.cases, &mut expressions.whole),
-        FunctionMark::Else => functions::otherwise(&mut expressions.cases, &mut expressions.whole),
         FunctionMark::End => functions::end_case(
             alloc,
+            &mut expressions.optional,
             &mut expressions.cases,
             &mut expressions.whole,
         ),

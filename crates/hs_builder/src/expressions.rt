@@ -6,7 +6,9 @@ ghost use Rattle.hs_builder.specs.declared.build_fault.BuildFault.TheVariants.{N
 
 use crate::build_fault::BuildFault;
 use crate::depth::{deeper, deepest};
-use crate::part::{Built, BuiltBody, BuiltList, BuiltQuery, PlacedLiteral, PlacedText};
+use crate::part::{
+    Built, BuiltBody, BuiltList, BuiltOptional, BuiltQuery, PlacedLiteral, PlacedText,
+};
 use crate::stack::Stack;
 use hs_ast::{
     BinaryOperator, ColumnName, Expression, ExpressionKind, Identifier, IntervalUnit, Query, Sign,
@@ -396,5 +398,29 @@ pub fn next(expressions: &mut Stack<Built>, lists: &mut Stack<BuiltList>) -> Res
     lists.push(BuiltList {
         trees: list.trees,
         depth: deepest(list.depth, e.depth),
+    })
+}
+
+/// What may be left out stands there.
+pub fn written(
+    expressions: &mut Stack<Built>,
+    optional: &mut Stack<BuiltOptional>,
+) -> Result<(), BuildFault>
+    ensures { Gives (spec.written (expressions.old, optional.old)) result (expressions.new, optional.new) }
+{
+    let e = expressions.pop()?;
+    optional.push(BuiltOptional {
+        tree: Some(e.tree),
+        depth: e.depth,
+    })
+}
+
+/// It doesn't.
+pub fn unwritten(optional: &mut Stack<BuiltOptional>) -> Result<(), BuildFault>
+    ensures { Gives (spec.unwritten optional.old) result optional.new }
+{
+    optional.push(BuiltOptional {
+        tree: None,
+        depth: 0,
     })
 }

@@ -5,7 +5,7 @@ ghost use Rattle.hs_builder.specs.Functions as spec;
 use crate::build_fault::BuildFault;
 use crate::depth::{deeper, deepest};
 use crate::expressions::{pop_two, put};
-use crate::part::{Built, BuiltCase, BuiltList};
+use crate::part::{Built, BuiltCase, BuiltList, BuiltOptional};
 use crate::stack::Stack;
 use hs_ast::{Aggregate, CaseArm, DataType, DateField, ExpressionKind, Function, TrimForm};
 use hs_lexer::Token;
@@ -37,7 +37,6 @@ pub fn begin_case(
 {
     cases.push(BuiltCase {
         arms: Items::new(alloc),
-        otherwise: None,
         depth: 0,
         at: token.start,
     })
@@ -55,40 +54,25 @@ pub fn arm(cases: &mut Stack<BuiltCase>, expressions: &mut Stack<Built>) -> Resu
     })?;
     cases.push(BuiltCase {
         arms: case.arms,
-        otherwise: case.otherwise,
         depth,
-        at: case.at,
-    })
-}
-
-pub fn otherwise(
-    cases: &mut Stack<BuiltCase>,
-    expressions: &mut Stack<Built>,
-) -> Result<(), BuildFault>
-    ensures { Gives (spec.otherwise (cases.old, expressions.old)) result (cases.new, expressions.new) }
-{
-    let value = expressions.pop()?;
-    let case = cases.pop()?;
-    cases.push(BuiltCase {
-        arms: case.arms,
-        otherwise: Some(value.tree),
-        depth: deepest(case.depth, value.depth),
         at: case.at,
     })
 }
 
 pub fn end_case(
     alloc: Global,
+    optional: &mut Stack<BuiltOptional>,
     cases: &mut Stack<BuiltCase>,
     expressions: &mut Stack<Built>,
 ) -> Result<(), BuildFault>
-    ensures { Gives (spec.end_case (cases.old, expressions.old)) result (cases.new, expressions.new) }
+    ensures { Gives (spec.end_case (optional.old, cases.old, expressions.old)) result (optional.new, cases.new, expressions.new) }
 {
+    let otherwise = optional.pop()?;
     let case = cases.pop()?;
-    let depth = deeper(case.depth, 0)?;
+    let depth = deeper(case.depth, otherwise.depth)?;
     let kind = ExpressionKind::Case {
         arms: case.arms,
-        otherwise: case.otherwise,
+        otherwise: otherwise.tree,
     };
     put(alloc, expressions, case.at, kind, depth)
 }

@@ -67,6 +67,9 @@ pub enum ExpressionMark {
     Interval(Sign, IntervalUnit),
     First,
     Next,
+    /// What may be left out: the condition of WHERE or HAVING, the value of ELSE.
+    Written,
+    Unwritten,
 }
 
 /// What begins with a word of its own.
@@ -76,7 +79,6 @@ pub enum FunctionMark {
     /// The token is CASE.
     Case,
     Arm,
-    Else,
     End,
     Call(Function),
     Substring,
@@ -103,9 +105,8 @@ pub enum QueryMark {
     Join(bool),
     CrossJoin,
     AddFrom,
-    Where,
     Group,
-    Having,
+    /// The topmost that may be left out is the condition of HAVING, the next one that of WHERE.
     SelectBody,
     /// The token is VALUES.
     Values,
@@ -141,10 +142,8 @@ pub enum ChangeMark {
     Assign,
     /// The token is DEFAULT.
     AssignDefault,
-    UpdateWhere,
     UpdateStatement,
     Delete,
-    DeleteWhere,
     DeleteStatement,
     Lock,
     /// A table for READ, or with true for WRITE.

@@ -36,6 +36,7 @@ impl Parts {
                 forms: Stack::new(alloc),
                 fields: Stack::new(alloc),
                 counts: Stack::new(alloc),
+                optional: Stack::new(alloc),
             },
             queries: Queries {
                 selects: Stack::new(alloc),

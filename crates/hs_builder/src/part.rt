@@ -41,24 +41,28 @@ pub struct BuiltList {
     pub depth: u32,
 }
 
-/// A CASE as far as it is read.
+/// What may be left out: the condition of WHERE or HAVING, the value of ELSE.
+#[derive(Drop)]
+pub struct BuiltOptional {
+    pub tree: Option<Boxed<Expression>>,
+    pub depth: u32,
+}
+
+/// A CASE as far as it is read, without ELSE.
 #[derive(Drop)]
 pub struct BuiltCase {
     pub arms: Items<CaseArm>,
-    pub otherwise: Option<Boxed<Expression>>,
     pub depth: u32,
     pub at: u32,
 }
 
-/// A SELECT as far as it is read, without ORDER BY and LIMIT.
+/// A SELECT as far as it is read, without WHERE, HAVING, ORDER BY and LIMIT.
 #[derive(Drop)]
 pub struct BuiltSelect {
     pub distinct: bool,
     pub items: Items<SelectItem>,
     pub from: Items<FromItem>,
-    pub filter: Option<Boxed<Expression>>,
     pub group_by: Items<Expression>,
-    pub having: Option<Boxed<Expression>>,
     pub depth: u32,
     pub at: u32,
 }
@@ -155,6 +159,7 @@ pub struct Expressions {
     pub forms: Stack<TrimForm>,
     pub fields: Stack<DateField>,
     pub counts: Stack<u64>,
+    pub optional: Stack<BuiltOptional>,
 }
 
 #[derive(Drop)]

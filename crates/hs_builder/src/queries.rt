@@ -9,8 +9,8 @@ use crate::depth::{deeper, deepest};
 use crate::expressions::pop_query;
 use crate::natural::wide_natural;
 use crate::part::{
-    Built, BuiltBody, BuiltFrom, BuiltList, BuiltQuery, BuiltRows, BuiltSelect, BuiltTable,
-    PlacedNumber,
+    Built, BuiltBody, BuiltFrom, BuiltList, BuiltOptional, BuiltQuery, BuiltRows, BuiltSelect,
+    BuiltTable, PlacedNumber,
 };
 use crate::stack::Stack;
 use hs_ast::{
@@ -35,9 +35,7 @@ pub fn begin_select(
         distinct,
         items: Items::new(alloc),
         from: Items::new(alloc),
-        filter: None,
         group_by: Items::new(alloc),
-        having: None,
         depth: 0,
         at,
     })
@@ -173,19 +171,6 @@ pub fn add_from(
     selects.push(select)
 }
 
-pub fn filter(
-    expressions: &mut Stack<Built>,
-    selects: &mut Stack<BuiltSelect>,
-) -> Result<(), BuildFault>
-    ensures { Gives (spec.filter (expressions.old, selects.old)) result (expressions.new, selects.new) }
-{
-    let e = expressions.pop()?;
-    let mut select = selects.pop()?;
-    select.depth = deepest(select.depth, e.depth);
-    select.filter = Some(e.tree);
-    selects.push(select)
-}
-
 pub fn group(
     expressions: &mut Stack<Built>,
     selects: &mut Stack<BuiltSelect>,
@@ -199,45 +184,30 @@ pub fn group(
     selects.push(select)
 }
 
-pub fn having(
-    expressions: &mut Stack<Built>,
-    selects: &mut Stack<BuiltSelect>,
-) -> Result<(), BuildFault>
-    ensures { Gives (spec.having (expressions.old, selects.old)) result (expressions.new, selects.new) }
-{
-    let e = expressions.pop()?;
-    let mut select = selects.pop()?;
-    select.depth = deepest(select.depth, e.depth);
-    select.having = Some(e.tree);
-    selects.push(select)
-}
-
 pub fn select_body(
     alloc: Global,
+    optional: &mut Stack<BuiltOptional>,
     selects: &mut Stack<BuiltSelect>,
     bodies: &mut Stack<BuiltBody>,
 ) -> Result<(), BuildFault>
-    ensures { Gives (spec.select_body (selects.old, bodies.old)) result (selects.new, bodies.new) }
+    ensures { Gives (spec.select_body (optional.old, selects.old, bodies.old)) result (optional.new, selects.new, bodies.new) }
 {
+    let having = optional.pop()?;
+    let filter = optional.pop()?;
     let select = selects.pop()?;
+    let depth = deepest(select.depth, deepest(filter.depth, having.depth));
     let tree = Boxed::new(
         alloc,
         Select {
             distinct: select.distinct,
             items: select.items,
             from: select.from,
-            filter: select.filter,
+            filter: filter.tree,
             group_by: select.group_by,
-            having: select.having,
+            having: having.tree,
         },
     )?;
-    put_body(
-        alloc,
-        bodies,
-        QueryBody::Select(tree),
-        select.depth,
-        select.at,
-    )
+    put_body(alloc, bodies, QueryBody::Select(tree), depth, select.at)
 }
 
 /// Puts a body without parentheses on the stack.

@@ -1,7 +1,7 @@
 // The steps of queries and of each family of statements, each by its mark.
 ghost use Rattle.std.specs.Prelude.{◌≡◌, ◌+◌, ◌-◌, ◌<◌, ◌≤◌, MatchResult, MatchOption, length, slice_get, Some, None};
 ghost use Rattle.hs_builder.specs.MarkSteps.{query_step, change_step, definition_step, session_step};
-ghost use Rattle.hs_builder.specs.Steps.{Gives, Answers};
+ghost use Rattle.hs_builder.specs.Steps.{Gives};
 
 use crate::build_fault::BuildFault;
 use crate::mark::{ChangeMark, DefinitionMark, QueryMark, SessionMark};
@@ -55,11 +55,10 @@ pub fn apply_query(
         ),
         QueryMark::CrossJoin => queries::cross_join(&mut queries.tables, &mut queries.froms),
         QueryMark::AddFrom => queries::add_from(&mut queries.froms, &mut queries.selects),
-        QueryMark::Where => queries::filter(&mut expressions.whole, &mut queries.selects),
         QueryMark::Group => queries::group(&mut expressions.whole, &mut queries.selects),
-        QueryMark::Having => queries::having(&mut expressions.whole, &mut queries.selects),
         QueryMark::SelectBody => queries::select_body(
             alloc,
+            &mut expressions.optional,
             &mut queries.selects,
             &mut queries.bodies,
         ),
@@ -155,11 +154,8 @@ pub fn apply_change(
             &mut parts.leaves.names,
             &mut parts.changes.updates,
         ),
-        ChangeMark::UpdateWhere => changes::update_where(
-            &mut parts.expressions.whole,
-            &mut parts.changes.updates,
-        ),
         ChangeMark::UpdateStatement => changes::update_statement(
+            &mut parts.expressions.optional,
             &mut parts.changes.updates,
             &mut parts.statements,
         ),
@@ -168,11 +164,8 @@ pub fn apply_change(
             &mut parts.leaves.aliases,
             &mut parts.changes.deletes,
         ),
-        ChangeMark::DeleteWhere => changes::delete_where(
-            &mut parts.expressions.whole,
-            &mut parts.changes.deletes,
-        ),
         ChangeMark::DeleteStatement => changes::delete_statement(
+            &mut parts.expressions.optional,
             &mut parts.changes.deletes,
             &mut parts.statements,
         ),

@@ -1,5 +1,5 @@
 -- What the entries of a cache are after a change of one of them.
-use Rattle.std.proofs.Common.{◌≡◌, ℕ, ◌+◌, ◌-◌, ◌<◌, ◌≤◌, Bool, true, false, List, [], ◌∷◌, length, take, nat_eq, Option, Some, None, is_some, if◌then◌else◌, refl, sym, ◌∙◌, ap, arith}
+use Rattle.std.proofs.Common.{◌≡◌, ℕ, ◌-◌, ◌<◌, Bool, true, false, [], ◌∷◌, length, take, nat_eq, Option, Some, None, is_some, if◌then◌else◌, refl, sym, ◌∙◌, ap, arith}
 use Rattle.std.specs.Option.{option_map, option_map_or}
 use Rattle.std.specs.Map.{lookup, lookup_entry, set_value, remove_entry}
 use Rattle.std.proofs.lemmas.List.{take_all}

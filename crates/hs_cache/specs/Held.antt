@@ -1,5 +1,5 @@
 -- The pages that are held, the most recently used first.
-use Rattle.std.specs.Prelude.{◌≡◌, ℕ, ◌-◌, Bool, true, false, List, [], ◌∷◌, length, take, nat_eq, find, map, filter, Option, if◌then◌else◌}
+use Rattle.std.specs.Prelude.{ℕ, true, false, List, [], ◌∷◌, nat_eq, find, map, filter, Option, if◌then◌else◌}
 use Rattle.std.specs.Option.{option_map}
 use Rattle.std.specs.Map.{lookup}
 use Rattle.hs_cache.specs.declared.frames.Frame.{Frame}

@@ -5,6 +5,8 @@ ghost use Rattle.std.specs.Map.{keys_of};
 ghost use Rattle.lru.specs.LruCache.{promoted, last_entry};
 ghost use Rattle.hs_cache.specs.Held.{frame_of, changed, with_page, cleaned, first_dirty, dirty_pages};
 
+use crate::held_page::HeldPage;
+use crate::spare_pages::SparePages;
 use hs_base::{NoMemory, PageNo};
 use hs_page::Page;
 use lru::LruCache;
@@ -22,7 +24,8 @@ pub struct Frame {
 /// The pages that are held, at most as many as the limit. Contracts see them as a list, the most recently used first.
 #[derive(Drop)]
 pub struct Frames {
-    cache: LruCache<u64, Frame>,
+    cache: LruCache<u64, HeldPage>,
+    spare: SparePages,
 }
 
 impl Model for Frames {
@@ -34,11 +37,11 @@ impl Model for Frames {
 }
 
 // The number of the most recently used page that is dirty.
-fn first_dirty(cache: &LruCache<u64, Frame>) -> Option<u64>
+fn first_dirty(cache: &LruCache<u64, HeldPage>) -> Option<u64>
     ensures { result ≡ first_dirty cache.now.entries }
 {
-    for (p, frame) in cache.iter() {
-        if frame.dirty {
+    for (p, held) in cache.iter() {
+        if held.is_dirty() {
             return Some(*p);
         }
     }
@@ -46,12 +49,12 @@ fn first_dirty(cache: &LruCache<u64, Frame>) -> Option<u64>
 }
 
 // The numbers of all dirty pages, in the order of use.
-fn dirty_pages(alloc: Global, cache: &LruCache<u64, Frame>) -> Result<Vec<PageNo>, NoMemory>
+fn dirty_pages(alloc: Global, cache: &LruCache<u64, HeldPage>) -> Result<Vec<PageNo>, NoMemory>
     ensures { IfOk result (λ pages. map (λ p. p.0) pages.items ≡ dirty_pages cache.now.entries) }
 {
     let mut pages = Vec::new(alloc);
-    for (p, frame) in cache.iter() {
-        if frame.dirty {
+    for (p, held) in cache.iter() {
+        if held.is_dirty() {
             pages.push(PageNo(*p))?;
         }
     }
@@ -68,6 +71,7 @@ impl Frames {
         let limit = NonZeroUsize::new(limit).unwrap_or(NonZeroUsize::MIN);
         Ok(Frames {
             cache: LruCache::new(alloc, limit)?,
+            spare: SparePages::new(alloc),
         })
     }
 
@@ -108,7 +112,7 @@ impl Frames {
         ensures { option_copied result ≡ option_map (λ frame. frame.page) (frame_of p.0 self.now.pages) }
     {
         match self.cache.peek(&p.0) {
-            Some(frame) => Some(&frame.page),
+            Some(held) => Some(held.page()),
             None => None,
         }
     }
@@ -119,9 +123,8 @@ impl Frames {
         ensures pages { self.new.pages ≡ changed p.0 (with_page page) self.old.pages }
         ensures limit { self.new.limit ≡ self.old.limit }
     {
-        if let Some(frame) = self.cache.peek_mut(&p.0) {
-            frame.page = page;
-            frame.dirty = true;
+        if let Some(held) = self.cache.peek_mut(&p.0) {
+            held.set(page);
         }
     }
 
@@ -149,8 +152,8 @@ impl Frames {
         ensures pages { self.new.pages ≡ changed p.0 cleaned self.old.pages }
         ensures limit { self.new.limit ≡ self.old.limit }
     {
-        if let Some(frame) = self.cache.peek_mut(&p.0) {
-            frame.dirty = false;
+        if let Some(held) = self.cache.peek_mut(&p.0) {
+            held.clean();
         }
     }
 
@@ -163,7 +166,10 @@ impl Frames {
         ensures err { OnErr result (self.new.pages ≡ self.old.pages) }
         ensures limit { self.new.limit ≡ self.old.limit }
     {
-        self.cache.put(p.0, Frame { page, dirty: false })?;
+        let held = self.cache.len();
+        let free = self.cache.cap().get().saturating_sub(held);
+        let memory = self.spare.take(free.min(held.saturating_add(1)))?;
+        self.cache.put(p.0, HeldPage::new(memory, page))?;
         Ok(())
     }
 
@@ -173,7 +179,8 @@ impl Frames {
         ensures rest { self.new.pages ≡ take (length self.old.pages - 1) self.old.pages }
         ensures limit { self.new.limit ≡ self.old.limit }
     {
-        let (p, frame) = self.cache.pop_lru()?;
+        let (p, held) = self.cache.pop_lru()?;
+        let frame = held.into_frame();
         Some((PageNo(p), frame.page, frame.dirty))
     }
 }

@@ -2,6 +2,8 @@
 #![tactic(auto)]
 
 mod frames;
+mod held_page;
+mod spare_pages;
 #[cfg(test)]
 mod tests;
 

@@ -2,37 +2,25 @@
 use Rattle.std.proofs.Common.{◌≡◌, ◌⊎◌, inl, inr, ℕ, ◌+◌, ◌≤◌, List, [], ◌∷◌, ◌++◌, length, take, drop, refl, sym, ◌∙◌, ap, subst, arith, append_assoc}
 use Rattle.std.proofs.Math.Seq.{take-add}
 use Rattle.hs_host.specs.declared.file_kind.FileKind.{FileKind}
-use Rattle.hs_host.specs.declared.file_kind.FileKind.TheVariants.{Log}
+use Rattle.hs_host.specs.declared.file_kind.FileKind.TheVariants as file
 use Rattle.hs_host.specs.Disk.{Pending, Leaves}
 use Rattle.hs_host.specs.Files.{Five, of}
 use Rattle.hs_host.specs.Moments.{Moment, History, Since, OneFile, IsStill, IsPrinted, IsReading, disk_of}
 use Rattle.hs_host.proofs.Changing.{disk_is}
 use Rattle.hs_host.proofs.Passing.{since_weaker}
-use Rattle.hs_host.proofs.Torn.{front_stays}
-use Rattle.hs_gate.specs.declared.gated.Gated.{Gated}
-use Rattle.hs_gate.specs.Crash.{IsAsBefore}
-use Rattle.hs_gate.proofs.Torn.{as_before}
-use Rattle.hs_log.specs.Log.{IsLogOf, IsLog, HasNoneOrAll, texts_of}
-use Rattle.hs_log.proofs.Logs.{log_of, same_log}
+use Rattle.hs_log.specs.declared.log.Log.{Log}
+use Rattle.hs_log.specs.Log.{IsLogOf, IsSameLog, IsLog, HasNoneOrAll, texts_of, epoch_in}
+use Rattle.hs_log.proofs.Logs.{log_of, log_left, log_on, same_is}
 use Rattle.hs_durable.specs.Durable.{Point, StandFor, LeavesNoOther, Means, IsSafe, IsServed, IsCommitting, Survives, and_logged}
-
--- whatever a crash leaves of the log is a log of the same texts
-pub log_left : (h : History) (files : Five (List ℕ)) (log : Gated) (left : List ℕ) → IsLog h files log → Leaves (disk_of h.now Log) left → IsLogOf log.epoch (texts_of files.log) left
-log_left h files log left is leaves =
-    let there : of files log.file ≡ files.log = ap (λ (k : FileKind). of files k) is.file in
-    let mine : Leaves (disk_of h.now log.file) left = rw is.file leaves in
-    let same : IsAsBefore (of files log.file) left = as_before files log left is.rest.stands (front_stays (disk_of h.now log.file) (log.end + 1) (of files log.file) left is.calm mine) in
-    let here : IsAsBefore files.log left = rw there at same in
-    same_log log.epoch (texts_of files.log) files.log left (log_of h files log is) here.header here.groups
 
 -- a log of these texts, as what files stand for
 stands_as : (p : Point) (epoch : ℕ) (texts : List (List ℕ)) (bytes : List ℕ) → epoch ≡ p.epoch → texts ≡ p.logged → IsLogOf epoch texts bytes → IsLogOf p.epoch p.logged bytes
 stands_as p epoch texts bytes e t log = subst (λ (n : ℕ). IsLogOf n p.logged bytes) e (subst (λ (l : List (List ℕ)). IsLogOf epoch l bytes) t log)
 
-pub served_safe : (p : Point) (held : Gated) (h : History) (files : Five (List ℕ)) → IsServed p held h files → IsSafe (λ q. q ≡ p) h.now
+pub served_safe : (p : Point) (held : Log) (h : History) (files : Five (List ℕ)) → IsServed p held h files → IsSafe (λ q. q ≡ p) h.now
 served_safe p held h files served left leaves = record {
   point = p;
-  stand = record { log = stands_as p held.epoch (texts_of files.log) left.log served.epoch served.logged (log_left h files held left.log served.log (leaves Log)) };
+  stand = record { log = stands_as p (epoch_in held) (texts_of files.log) left.log served.epoch served.logged (same_is (epoch_in held) (texts_of files.log) files.log left.log (log_of h files held served.log) (log_left h files held left.log served.log (leaves file.Log))) };
   is = refl;
 }
 
@@ -65,46 +53,41 @@ told_safe M a b bytes safe ab = since_weaker (told_left a b bytes ab) (λ m fewe
 pub read_safe : (M : Point → Type 0) (a b : History) → IsSafe M a.now → Since (IsReading a.now) a b → Since (IsSafe M) a b
 read_safe M a b safe ab = since_weaker (read_left a b ab) (λ m fewer. safe_on M a.now m fewer safe)
 
-pub served_on : (p : Point) (held : Gated) (a b : History) (files : Five (List ℕ)) → IsServed p held a files → b.now.disks ≡ a.now.disks → IsServed p held b files
+pub served_on : (p : Point) (held : Log) (a b : History) (files : Five (List ℕ)) → IsServed p held a files → b.now.disks ≡ a.now.disks → IsServed p held b files
 served_on p held a b files served is = record {
-  log = record {
-    file = served.log.file;
-    born = served.log.born;
-    rest = served.log.rest;
-    calm = rw is served.log.calm;
-  };
+  log = log_on a b files files held is refl served.log;
   epoch = served.epoch;
   logged = served.logged;
 }
 
 -- what a crash leaves of the log where it alone was changed
-one_left : (Q : List ℕ → Type 0) (before m : Moment) (left : List ℕ) → OneFile before Log Q m → Leaves (disk_of m Log) left → Q left
-one_left Q before m left one leaves = one.each left (subst (λ (p : Pending). Leaves p left) (disk_is before m Log one.disk one.is) leaves)
+one_left : (Q : List ℕ → Type 0) (before m : Moment) (left : List ℕ) → OneFile before file.Log Q m → Leaves (disk_of m file.Log) left → Q left
+one_left Q before m left one leaves = one.each left (subst (λ (p : Pending). Leaves p left) (disk_is before m file.Log one.disk one.is) leaves)
 
-by_either : (p : Point) (held : Gated) (files : Five (List ℕ)) (more : List (List ℕ)) (left : Five (List ℕ)) → held.epoch ≡ p.epoch → texts_of files.log ≡ p.logged → HasNoneOrAll held.epoch (texts_of files.log) more left.log → Means (IsCommitting p more) left
-by_either p held files more left e t (inl none) = record { point = p; stand = record { log = stands_as p held.epoch (texts_of files.log) left.log e t none }; is = inl refl }
+by_either : (p : Point) (held : Log) (files : Five (List ℕ)) (more : List (List ℕ)) (left : Five (List ℕ)) → (epoch_in held) ≡ p.epoch → texts_of files.log ≡ p.logged → HasNoneOrAll (epoch_in held) (texts_of files.log) more left.log → Means (IsCommitting p more) left
+by_either p held files more left e t (inl none) = record { point = p; stand = record { log = stands_as p (epoch_in held) (texts_of files.log) left.log e t none }; is = inl refl }
 by_either p held files more left e t (inr all) = record {
   point = and_logged more p;
-  stand = record { log = stands_as (and_logged more p) held.epoch (texts_of files.log ++ more) left.log e (ap (λ (l : List (List ℕ)). l ++ more) t) all };
+  stand = record { log = stands_as (and_logged more p) (epoch_in held) (texts_of files.log ++ more) left.log e (ap (λ (l : List (List ℕ)). l ++ more) t) all };
   is = inr refl;
 }
 
-pub commits_safe : (p : Point) (held : Gated) (a b : History) (files : Five (List ℕ)) (more : List (List ℕ)) → IsServed p held a files → Since (OneFile a.now Log (HasNoneOrAll held.epoch (texts_of files.log) more)) a b → Since (IsSafe (IsCommitting p more)) a b
-commits_safe p held a b files more served ab = since_weaker ab (λ m one left leaves. by_either p held files more left served.epoch served.logged (one_left (HasNoneOrAll held.epoch (texts_of files.log) more) a.now m left.log one (leaves Log)))
+pub commits_safe : (p : Point) (held : Log) (a b : History) (files : Five (List ℕ)) (more : List (List ℕ)) → IsServed p held a files → Since (OneFile a.now file.Log (HasNoneOrAll (epoch_in held) (texts_of files.log) more)) a b → Since (IsSafe (IsCommitting p more)) a b
+commits_safe p held a b files more served ab = since_weaker ab (λ m one left leaves. by_either p held files more left served.epoch served.logged (one_left (HasNoneOrAll (epoch_in held) (texts_of files.log) more) a.now m left.log one (leaves file.Log)))
 
-pub commits_served : (p : Point) (held after : Gated) (a b : History) (files new : Five (List ℕ)) (more : List (List ℕ)) → IsServed p held a files → IsLog b new after → after.epoch ≡ held.epoch → texts_of new.log ≡ texts_of files.log ++ more → IsServed (and_logged more p) after b new
+pub commits_served : (p : Point) (held after : Log) (a b : History) (files new : Five (List ℕ)) (more : List (List ℕ)) → IsServed p held a files → IsLog b new after → epoch_in after ≡ (epoch_in held) → texts_of new.log ≡ texts_of files.log ++ more → IsServed (and_logged more p) after b new
 commits_served p held after a b files new more served log epoch texts = record {
   log = log;
   epoch = epoch ∙ served.epoch;
   logged = texts ∙ ap (λ (l : List (List ℕ)). l ++ more) served.logged;
 }
 
-pub settled_safe : (p : Point) (held : Gated) (a b : History) (files : Five (List ℕ)) → IsServed p held a files → Since (OneFile a.now Log (IsAsBefore files.log)) a b → Since (IsSafe (λ q. q ≡ p)) a b
+pub settled_safe : (p : Point) (held : Log) (a b : History) (files : Five (List ℕ)) → IsServed p held a files → Since (OneFile a.now file.Log (IsSameLog files.log)) a b → Since (IsSafe (λ q. q ≡ p)) a b
 settled_safe p held a b files served ab = since_weaker ab (λ m one left leaves.
-    let same = one_left (IsAsBefore files.log) a.now m left.log one (leaves Log) in
+    let same = one_left (IsSameLog files.log) a.now m left.log one (leaves file.Log) in
     record {
       point = p;
-      stand = record { log = stands_as p held.epoch (texts_of files.log) left.log served.epoch served.logged (same_log held.epoch (texts_of files.log) files.log left.log (log_of a files held served.log) same.header same.groups) };
+      stand = record { log = stands_as p (epoch_in held) (texts_of files.log) left.log served.epoch served.logged (same_is (epoch_in held) (texts_of files.log) files.log left.log (log_of a files held served.log) same) };
       is = refl;
     })
 

@@ -1,14 +1,13 @@
 -- What the files of a database stand for, as lists of texts, and what a crash leaves of that.
-use Rattle.std.specs.Prelude.{◌≡◌, ◌⊎◌, ℕ, ◌≤◌, false, List, [], ◌++◌, length, take}
+use Rattle.std.specs.Prelude.{◌≡◌, ◌⊎◌, ℕ, ◌≤◌, List, [], ◌++◌, length, take}
 use Rattle.hs_host.specs.declared.file_kind.FileKind.{FileKind}
-use Rattle.hs_host.specs.declared.file_kind.FileKind.TheVariants.{Log}
 use Rattle.hs_host.specs.Disk.{Leaves}
 use Rattle.hs_host.specs.Files.{Five, of}
-use Rattle.hs_host.specs.Moments.{Moment, History, OneFile, disk_of}
-use Rattle.hs_gate.specs.declared.gated.Gated.{Gated}
-use Rattle.hs_gate.specs.Crash.{IsAny}
-use Rattle.hs_gate.specs.Groups.{is_born}
-use Rattle.hs_log.specs.Log.{IsLogOf, IsLog, texts_of}
+use Rattle.hs_host.specs.Moments.{Moment, History, disk_of}
+use Rattle.hs_log.specs.declared.log.Log.{Log}
+use Rattle.hs_log.specs.Log.{IsLogOf, IsLog, texts_of, epoch_in}
+-- The one case in which nothing is promised: the birth of a log that stood alone.
+pub use Rattle.hs_log.specs.Log.{IsBirth}
 
 -- What files stand for: the epoch, and the texts of the commits that were logged since the last checkpoint, the oldest first.
 pub record Point : Type 0 where
@@ -46,9 +45,9 @@ abbrev pub IsSafe : (Point → Type 0) → Moment → Type 0
 IsSafe meaning m = (files : Five (List ℕ)) → AreLeft m files → Means meaning files
 
 -- The files stand for this and are held as this: the log is kept so, and stands so on the disk.
-pub record IsServed (p : Point) (held : Gated) (h : History) (files : Five (List ℕ)) : Type 0 where
+pub record IsServed (p : Point) (held : Log) (h : History) (files : Five (List ℕ)) : Type 0 where
   pub log : IsLog h files held
-  pub epoch : held.epoch ≡ p.epoch
+  pub epoch : epoch_in held ≡ p.epoch
   pub logged : texts_of files.log ≡ p.logged
 
 -- Some commits are being logged: none of them is, or all are.
@@ -62,9 +61,3 @@ pub record Survives (opening : Point) (made : List (List ℕ)) (least : ℕ) (p 
   pub enough : least ≤ count
   pub within : count ≤ length made
   pub is : p ≡ and_logged (take count made) opening
-
--- The one case in which nothing is promised: a log that stood alone and wasn't born is being made, before anything else is
--- done or told.
-pub record IsBirth (files : Five (List ℕ)) (before m : Moment) : Type 0 where
-  pub unborn : is_born files.log ≡ false
-  pub log : OneFile before Log IsAny m

@@ -1,5 +1,5 @@
 -- What is left of an input, one step after another.
-use Rattle.std.proofs.Common.{◌≡◌, ℕ, suc, ◌+◌, ◌-◌, ◌<◌, ◌≤◌, true, false, Bool, List, [], ◌∷◌, ◌++◌, Option, Some, None, Result, Ok, Err, IfOk, IfNone, IfSome, length, take, drop, slice_index, slice_range, length-append, refl, sym, ap, subst, append_assoc, append-nil, ◌∙◌, arith}
+use Rattle.std.proofs.Common.{◌≡◌, ℕ, suc, ◌+◌, ◌-◌, ◌<◌, ◌≤◌, true, false, Bool, List, [], ◌∷◌, ◌++◌, Option, Some, None, Result, Ok, Err, IfOk, length, take, drop, slice_index, slice_range, length-append, refl, sym, ap, subst, append_assoc, append-nil, ◌∙◌, arith}
 use Rattle.std.proofs.Math.Seq.{take-append-add}
 use Rattle.std.proofs.lemmas.List.{take-take, take-append-drop, drop_more, get_or-take, length-take, length-take-le, length-drop, length_push, length-replicate}
 use Rattle.std.proofs.lemmas.List.Edits.{length-between}
@@ -15,6 +15,7 @@ use Rattle.hs_entries.specs.Entry.{item_of, is_too_long}
 use Rattle.hs_entries.specs.Items.{items_from, cut_items, no_items}
 use Rattle.hs_entries.specs.Left.{Left, items_of, whole_of, RunsOut, IsBeyond, TakesFirst, TakesWhole, IsNumbered, Takes, Continues, long}
 use Rattle.hs_entries.specs.Reader.{cut_at, Shrinks}
+use Rattle.hs_entries.specs.Taking.{Becomes}
 use Rattle.hs_entries.proofs.ItemSteps.{items_from-end, items_from-skip, items_from-leads, items_from-window, items_from-within}
 use Rattle.hs_entries.specs.declared.window.Window.{Window}
 use Rattle.hs_entries.specs.Window.{begun_of, left_of, ahead_of, room_of, IsSound, IsAtEnd, IsFresh}
@@ -378,17 +379,11 @@ long_cut n m w after unread too_long sound looked is unread_is ahead_is room_is 
     rw unread_is (cut_at_end_step n m w after too_long sound looked is ahead_is room_is)
 
 -- what holds of a step holds of it behind another
-pub none_on : (a b c : Left) (result : Result (Option Item) InputFault) → Continues a b → IfOk result (λ item. IfNone item (Continues b c))
-    → IfOk result (λ item. IfNone item (Continues a c))
-none_on a b c (Ok None) on then = continues_trans a b c on then
-none_on a b c (Ok (Some i)) on then = tt
-none_on a b c (Err e) on then = tt
-
-pub some_on : (a b c : Left) (result : Result (Option Item) InputFault) → Continues a b → IfOk result (λ item. IfSome item (λ i. Takes b i c))
-    → IfOk result (λ item. IfSome item (λ i. Takes a i c))
-some_on a b c (Ok None) on then = tt
-some_on a b c (Ok (Some i)) on then = continues_takes a b c i on then
-some_on a b c (Err e) on then = tt
+pub becomes_on : (a b c : Left) (result : Result (Option Item) InputFault) → Continues a b → IfOk result (λ item. Becomes b item c)
+    → IfOk result (λ item. Becomes a item c)
+becomes_on a b c (Ok None) on then = continues_trans a b c on then
+becomes_on a b c (Ok (Some i)) on then = continues_takes a b c i on then
+becomes_on a b c (Err e) on then = tt
 
 -- a window has looked at all bytes that may be used, and another is at hand
 pub limit_beyond : (n : ℕ) (w : Window) (unread : List ℕ) → IsSound w → w.room ≡ 0 → 0 < length (left_of w)

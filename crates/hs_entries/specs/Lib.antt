@@ -6,3 +6,5 @@ pub mod Parts
 pub mod Place
 pub mod Reader
 pub mod Window
+pub mod Calls
+pub mod Taking

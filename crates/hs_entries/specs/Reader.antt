@@ -1,5 +1,5 @@
 -- What a reader has at hand, and what it takes from the input.
-use Rattle.std.specs.Prelude.{◌≡◌, ℕ, ◌+◌, ◌<◌, ◌≤◌, Bool, true, false, ◌||◌, nat_lt, List, [], ◌∷◌, ◌++◌, Option, is_some, length, take, if◌then◌else◌}
+use Rattle.std.specs.Prelude.{◌≡◌, ℕ, ◌+◌, ◌<◌, ◌≤◌, Bool, true, false, ◌||◌, nat_lt, List, [], ◌++◌, Option, is_some, length, take, if◌then◌else◌}
 use Rattle.hs_host.specs.declared.host_fault.HostFault.{HostFault}
 use Rattle.hs_host.specs.declared.host_fault.HostFault.TheVariants as host
 use Rattle.hs_entries.specs.declared.input_fault.InputFault.{InputFault}

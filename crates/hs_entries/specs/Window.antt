@@ -1,5 +1,5 @@
 -- The bytes at hand.
-use Rattle.std.specs.Prelude.{◌≡◌, ℕ, ◌+◌, ◌-◌, ◌^◌, ◌<◌, ◌≤◌, true, List, Some, length, slice_range, slice_index}
+use Rattle.std.specs.Prelude.{◌≡◌, ℕ, ◌+◌, ◌-◌, ◌^◌, ◌<◌, ◌≤◌, ◌↔◌, IsTrue, Bool, true, false, List, [], ◌++◌, Some, length, slice_range, slice_index}
 use Rattle.hs_entries.specs.declared.window.Window.{Window}
 use Rattle.hs_entries.specs.declared.place.Place.TheVariants.{Between}
 use Rattle.hs_entries.specs.Place.{leads, passes, ends}
@@ -43,3 +43,16 @@ pub record IsAtEnd (w : Window) : Type 0 where
 -- nothing is skipped and nothing begun
 abbrev pub IsFresh : Window → Type 0
 IsFresh w = w.start ≡ w.at
+
+-- One read gave bytes behind those that are begun, or none, and what was skipped is dropped.
+pub record Refilled (old : Window) (got : Bool) (new : Window) : Type 0 where
+  pub fresh : IsFresh old → IsFresh new
+  pub begun : begun_of new ≡ begun_of old
+  pub skipped : skipped_of new ≡ []
+  pub place : new.place ≡ old.place
+  pub more : IsTrue got ↔ (0 < length (left_of new))
+
+-- They are those that the source had left, and none only at its end.
+pub record GetsBytes (before : List ℕ) (more : Bool) (bytes_got after : List ℕ) : Type 0 where
+  pub bytes : bytes_got ++ after ≡ before
+  pub end : more ≡ false → after ≡ []

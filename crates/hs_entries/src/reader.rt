@@ -3,7 +3,8 @@ ghost use Rattle.std.specs.Prelude.{◌≡◌, ◌⊎◌, true, false, ℕ, ◌+
 ghost use Rattle.std.proofs.Props.{props};
 ghost use Rattle.hs_host.specs.Host.{Rose};
 ghost use Rattle.hs_entries.specs.Place.{is_entry};
-ghost use Rattle.hs_entries.specs.Left.{TakesFirst, TakesWhole, RunsOut, IsBeyond, IsNumbered, KeepsRoom, Takes, Continues};
+ghost use Rattle.hs_entries.specs.Left.{IsBeyond, IsNumbered, Takes};
+ghost use Rattle.hs_entries.specs.Calls.{UsesSource, ReadFails};
 ghost use Rattle.hs_entries.specs.Asking.{Asks, Asked, NeedsMore};
 ghost use Rattle.hs_entries.specs.Window.{IsSound, IsAtEnd, IsFresh, ahead_of, left_of, begun_of, room_of};
 
@@ -29,6 +30,7 @@ pub struct EntryReader {
 }
 
 impl EntryReader {
+    ghost use Rattle.hs_entries.specs.Taking.{TakesItem, Counts, Becomes, GoesOn, Passes, Refills, GetsMore, KeepsCount};
     ghost use Rattle.hs_entries.specs.Reader.{ahead, room, next_number, kept, has_ended, rests, AgreesWith, is_ready as ready, is_ready_with as ready_with, is_at_hand, finds, left, left_over, left_within, left_items, left_whole, Shrinks, Grows, Skims, cut_at};
 
     /// A reader of a source of which at most `limit` bytes are used. Takes no memory: the first `next` takes
@@ -87,30 +89,22 @@ impl EntryReader {
     /// fails first. `NoMemory` is free.
     pub fn next<S: Source>(&mut self, source: &mut S) -> Result<Item, InputFault>
         // The items are those of the bytes at hand and then, until the input has ended, those that the source has left.
-        ensures item { S.tells → IfOk result (λ item. TakesFirst (left_items self.old (S.unread source.old)) item (left_items self.new (S.unread source.new))) }
-        ensures number { IfOk result (λ item. IsNumbered item (next_number self.old) (next_number self.new)) }
-        ensures end { IfOk result (λ item. item ≡ Item.End → (has_ended self.new ≡ true) × (ahead self.new ≡ [])) }
-        ensures shrinks { IfOk result (λ item. Shrinks item (room self.old) (room self.new)) }
-
-        // Within the limit.
-        ensures whole { S.tells → IfOk result (λ item. RunsOut (left self.old (S.unread source.old)) → TakesWhole (left_whole self.old (S.unread source.old)) item (left_whole self.new (S.unread source.new))) }
-        ensures used { S.tells → OnOk result (KeepsRoom (left self.old (S.unread source.old)) (left self.new (S.unread source.new))) }
-        ensures too_long { S.tells → kept self.old ≡ None → IsErrOf result InputFault.TooLong → IsBeyond (left self.old (S.unread source.old)) }
-        ensures beyond { kept self.old ≡ None → IsErrOf result InputFault.TooLong → room self.new < length (ahead self.new) }
+        ensures items { S.tells → IfOk result (λ item. TakesItem self.old (S.unread source.old) item self.new (S.unread source.new)) }
+        ensures counts { IfOk result (λ item. Counts self.old item self.new) }
+        ensures agrees { S.tells → AgreesWith self.old (S.unread source.old) → AgreesWith self.new (S.unread source.new) }
+        ensures ended { has_ended self.old ≡ true → has_ended self.new ≡ true }
 
         // Faults, and what is kept of them.
+        ensures too_long { S.tells → kept self.old ≡ None → IsErrOf result InputFault.TooLong → IsBeyond (left self.old (S.unread source.old)) }
+        ensures beyond { kept self.old ≡ None → IsErrOf result InputFault.TooLong → room self.new < length (ahead self.new) }
         ensures fault { kept self.old ≡ None → IsErrOf result InputFault.Fault → Rose (S.input_faults source.old) (S.input_faults source.new) }
-        ensures kept { IfErr result (λ fault. kept self.new ≡ Some fault) }
-        ensures ok { OnOk result ((kept self.old ≡ None) × (kept self.new ≡ None)) }
+        ensures kept { MatchResult result (λ _. (kept self.old ≡ None) × (kept self.new ≡ None)) (λ fault. kept self.new ≡ Some fault) }
         ensures again { IfSome (kept self.old) (λ fault. (result ≡ Err fault) × (self.new ≡ self.old)) }
 
         // The source.
         ensures ready { ready self.old ≡ true → source.new ≡ source.old }
         ensures needed { Asks S.reads (λ more. ready_with self.old more ≡ false) (rests self.new) source.old source.new }
-        ensures ended { has_ended self.old ≡ true → has_ended self.new ≡ true }
-        ensures agrees { S.tells → AgreesWith self.old (S.unread source.old) → AgreesWith self.new (S.unread source.new) }
-        ensures later { S.input_faults source.old ≤ S.input_faults source.new }
-        ensures only { S.only_input source.old source.new }
+        ensures uses { UsesSource S.Source source.old source.new }
     {
         if let Some(fault) = self.kept {
             return Err(fault);
@@ -129,9 +123,7 @@ impl EntryReader {
     fn read_item<S: Source>(&mut self, source: &mut S) -> Result<Item, InputFault>
         requires goes_on { self.old.has_ended ≡ false }
         ensures takes { S.tells → IfOk result (λ item. Takes (left_over self.old (S.unread source.old)) item (left_over self.new (S.unread source.new))) }
-        ensures number { IfOk result (λ item. IsNumbered item (next_number self.old) (next_number self.new)) }
-        ensures shrinks { IfOk result (λ item. Shrinks item (room self.old) (room self.new)) }
-        ensures end { IfOk result (λ item. item ≡ Item.End → (self.new.has_ended ≡ true) × (ahead self.new ≡ [])) }
+        ensures counts { IfOk result (λ item. Counts self.old item self.new) }
         ensures beyond { S.tells → IsErrOf result InputFault.TooLong → IsBeyond (left_over self.old (S.unread source.old)) }
         ensures past { IsErrOf result InputFault.TooLong → room self.new < length (ahead self.new) }
         ensures fault { IsErrOf result InputFault.Fault → Rose (S.input_faults source.old) (S.input_faults source.new) }
@@ -139,8 +131,7 @@ impl EntryReader {
         ensures needed { MatchResult result (λ _. Asks S.reads (λ more. NeedsMore (left_over self.old more)) self.new.has_ended source.old source.new) (λ _. Asks S.reads (λ more. NeedsMore (left_over self.old more)) true source.old source.new) }
         ensures agrees { S.tells → AgreesWith self.new (S.unread source.new) }
         ensures kept { self.new.kept ≡ self.old.kept }
-        ensures later { S.input_faults source.old ≤ S.input_faults source.new }
-        ensures only { S.only_input source.old source.new }
+        ensures uses { UsesSource S.Source source.old source.new }
     {
         'items: loop {
             match self.look() {
@@ -175,21 +166,15 @@ impl EntryReader {
     fn read_on<S: Source>(&mut self, source: &mut S) -> Result<Option<Item>, InputFault>
         requires looked { left_of self.old.window ≡ [] }
         requires goes_on { self.old.has_ended ≡ false }
-        ensures none { S.tells → IfOk result (λ item. IfNone item (Continues (left_over self.old (S.unread source.old)) (left_over self.new (S.unread source.new)))) }
-        ensures some { S.tells → IfOk result (λ item. IfSome item (λ i. Takes (left_over self.old (S.unread source.old)) i (left_over self.new (S.unread source.new)))) }
-        ensures number { IfOk result (λ item. MatchOption item (next_number self.new ≡ next_number self.old) (λ i. IsNumbered i (next_number self.old) (next_number self.new))) }
-        ensures grows { IfOk result (λ item. IfNone item (Grows self.old self.new)) }
-        ensures shrinks { IfOk result (λ item. MatchOption item (room self.new ≤ room self.old) (λ i. Shrinks i (room self.old) (room self.new))) }
+        ensures becomes { S.tells → IfOk result (λ item. Becomes (left_over self.old (S.unread source.old)) item (left_over self.new (S.unread source.new))) }
+        ensures goes_on { IfOk result (λ item. GoesOn self.old item self.new) }
         ensures beyond { S.tells → IsErrOf result InputFault.TooLong → IsBeyond (left_over self.old (S.unread source.old)) }
         ensures past { IsErrOf result InputFault.TooLong → room self.new < length (ahead self.new) }
         ensures fault { IsErrOf result InputFault.Fault → Rose (S.input_faults source.old) (S.input_faults source.new) }
         ensures kept { self.new.kept ≡ self.old.kept }
         ensures asked { Asked S.reads (left_over self.old) (left_over self.new) self.new.has_ended result source.old source.new }
-        ensures goes_on { IfOk result (λ item. IfNone item (self.new.has_ended ≡ false)) }
-        ensures end { IfOk result (λ item. IfSome item (λ i. i ≡ Item.End → (self.new.has_ended ≡ true) × (ahead self.new ≡ []))) }
         ensures agrees { S.tells → AgreesWith self.new (S.unread source.new) }
-        ensures later { S.input_faults source.old ≤ S.input_faults source.new }
-        ensures only { S.only_input source.old source.new }
+        ensures uses { UsesSource S.Source source.old source.new }
     {
         if self.window.is_full() {
             return self.skip_long(source);
@@ -205,26 +190,14 @@ impl EntryReader {
         requires looked { left_of self.old.window ≡ [] }
         requires kept { length (begun_of self.old.window) < MOST_BYTES }
         requires goes_on { self.old.has_ended ≡ false }
-        ensures continues { S.tells → OnOk result (Continues (left_over self.old (S.unread source.old)) (left_over self.new (S.unread source.new))) }
-        ensures bytes { S.tells → IsFresh self.old.window → OnOk result (ahead self.new ++ S.unread source.new ≡ ahead self.old ++ S.unread source.old) }
-        ensures fresh { IsFresh self.old.window → OnOk result (IsFresh self.new.window) }
-        ensures begun { OnOk result (begun_of self.new.window ≡ begun_of self.old.window) }
+        ensures refills { IfOk result (λ more. Refills self.old more self.new) }
+        ensures gets { S.tells → IfOk result (λ more. GetsMore self.old (S.unread source.old) more self.new (S.unread source.new)) }
+        ensures keeps { KeepsCount self.old self.new }
         ensures room { room self.new ≤ room self.old }
-        ensures fresh_room { IsFresh self.old.window → OnOk result (room self.new ≡ room self.old) }
-        ensures more { IfOk result (λ more. more ≡ true → Grows self.old self.new) }
-        ensures some { IfOk result (λ more. more ≡ true → 0 < length (left_of self.new.window)) }
-        ensures none { IfOk result (λ more. more ≡ false → left_of self.new.window ≡ []) }
-        ensures end { S.tells → IfOk result (λ more. more ≡ false → S.unread source.new ≡ []) }
-        ensures count { self.new.count ≡ self.old.count }
-        ensures kept { self.new.kept ≡ self.old.kept }
-        ensures goes_on { self.new.has_ended ≡ false }
-        ensures fault { IsErrOf result InputFault.Fault → Rose (S.input_faults source.old) (S.input_faults source.new) }
-        ensures too_long { IsErrOf result InputFault.TooLong → ⊥ }
         ensures one { OnOk result (S.reads source.old source.new (left_of self.new.window)) }
-        ensures on { OnOk result ((rest : List ℕ) → Continues (left_over self.old (left_of self.new.window ++ rest)) (left_over self.new rest)) }
         ensures err { OnErr result ((source.new ≡ source.old) ⊎ S.reads source.old source.new []) }
-        ensures later { S.input_faults source.old ≤ S.input_faults source.new }
-        ensures only { S.only_input source.old source.new }
+        ensures fails { IfErr result (ReadFails S.Source source.old source.new) }
+        ensures uses { UsesSource S.Source source.old source.new }
     {
         let more = self.window.refill(source)?;
         Ok(more)
@@ -252,21 +225,15 @@ impl EntryReader {
         requires looked { left_of self.old.window ≡ [] }
         requires full { MOST_BYTES ≤ length (begun_of self.old.window) }
         requires goes_on { self.old.has_ended ≡ false }
-        ensures none { S.tells → IfOk result (λ item. IfNone item (Continues (left_over self.old (S.unread source.old)) (left_over self.new (S.unread source.new)))) }
-        ensures some { S.tells → IfOk result (λ item. IfSome item (λ i. Takes (left_over self.old (S.unread source.old)) i (left_over self.new (S.unread source.new)))) }
-        ensures number { IfOk result (λ item. MatchOption item (next_number self.new ≡ next_number self.old) (λ i. IsNumbered i (next_number self.old) (next_number self.new))) }
-        ensures grows { IfOk result (λ item. IfNone item (Grows self.old self.new)) }
-        ensures shrinks { OnOk result (room self.new < room self.old) }
+        ensures becomes { S.tells → IfOk result (λ item. Becomes (left_over self.old (S.unread source.old)) item (left_over self.new (S.unread source.new))) }
+        ensures goes_on { IfOk result (λ item. GoesOn self.old item self.new) }
         ensures beyond { S.tells → IsErrOf result InputFault.TooLong → IsBeyond (left_over self.old (S.unread source.old)) }
         ensures past { IsErrOf result InputFault.TooLong → room self.new < length (ahead self.new) }
         ensures fault { IsErrOf result InputFault.Fault → Rose (S.input_faults source.old) (S.input_faults source.new) }
         ensures kept { self.new.kept ≡ self.old.kept }
         ensures asked { Asked S.reads (left_over self.old) (left_over self.new) self.new.has_ended result source.old source.new }
-        ensures goes_on { IfOk result (λ item. IfNone item (self.new.has_ended ≡ false)) }
-        ensures end { IfOk result (λ item. IfSome item (λ i. i ≡ Item.End → (self.new.has_ended ≡ true) × (ahead self.new ≡ []))) }
         ensures agrees { S.tells → AgreesWith self.new (S.unread source.new) }
-        ensures later { S.input_faults source.old ≤ S.input_faults source.new }
-        ensures only { S.only_input source.old source.new }
+        ensures uses { UsesSource S.Source source.old source.new }
     {
         let place = self.window.place();
         let is_too_long = self.window.is_too_long();
@@ -284,25 +251,18 @@ impl EntryReader {
         from: Place,
         source: &mut S,
     ) -> Result<Option<Item>, InputFault>
-        requires fresh { IsFresh self.old.window }
-        requires some { 0 < length (ahead self.old) }
+        requires fresh { IsFresh self.old.window × (0 < length (ahead self.old)) }
         requires goes_on { self.old.has_ended ≡ false }
         requires number { self.old.count + 1 + room self.old < 2 ^ 64 }
-        ensures none { S.tells → IfOk result (λ item. IfNone item (Continues (left_within self.old from (S.unread source.old)) (left_over self.new (S.unread source.new)))) }
-        ensures some { S.tells → IfOk result (λ item. IfSome item (λ i. Takes (left_within self.old from (S.unread source.old)) i (left_over self.new (S.unread source.new)))) }
-        ensures number { IfOk result (λ item. MatchOption item (next_number self.new ≡ next_number self.old) (λ i. IsNumbered i (next_number self.old) (next_number self.new))) }
-        ensures grows { OnOk result (room self.new + length (ahead self.old) ≤ room self.old + length (ahead self.new)) }
-        ensures shrinks { OnOk result (room self.new ≤ room self.old) }
+        ensures becomes { S.tells → IfOk result (λ item. Becomes (left_within self.old from (S.unread source.old)) item (left_over self.new (S.unread source.new))) }
+        ensures passes { IfOk result (λ item. Passes self.old item self.new) }
         ensures beyond { S.tells → IsErrOf result InputFault.TooLong → IsBeyond (left_within self.old from (S.unread source.old)) }
         ensures past { IsErrOf result InputFault.TooLong → room self.new < length (ahead self.new) }
         ensures fault { IsErrOf result InputFault.Fault → Rose (S.input_faults source.old) (S.input_faults source.new) }
         ensures kept { self.new.kept ≡ self.old.kept }
         ensures asked { Asked S.reads (left_within self.old from) (left_over self.new) self.new.has_ended result source.old source.new }
-        ensures goes_on { IfOk result (λ item. IfNone item (self.new.has_ended ≡ false)) }
-        ensures end { IfOk result (λ item. IfSome item (λ i. i ≡ Item.End → (self.new.has_ended ≡ true) × (ahead self.new ≡ []))) }
         ensures agrees { S.tells → AgreesWith self.new (S.unread source.new) }
-        ensures later { S.input_faults source.old ≤ S.input_faults source.new }
-        ensures only { S.only_input source.old source.new }
+        ensures uses { UsesSource S.Source source.old source.new }
     {
         let mut place = from;
         'skims: loop {

@@ -1,8 +1,8 @@
 // The bytes at hand.
-ghost use Rattle.std.specs.Prelude.{◌≡◌, ◌↔◌, ◌⊎◌, ◌+◌, ◌-◌, ◌<◌, ◌≤◌, false, [], ◌∷◌, ◌++◌, length, take, drop, slice_index, slice_range, Some, IfOk, OnOk, OnErr, IsErrOf, IsTrue};
-ghost use Rattle.hs_host.specs.Host.{Rose};
+ghost use Rattle.std.specs.Prelude.{◌≡◌, ◌↔◌, ◌⊎◌, ◌+◌, ◌-◌, ◌<◌, ◌≤◌, false, [], ◌∷◌, ◌++◌, length, take, drop, slice_index, slice_range, Some, IfOk, IfErr, OnOk, OnErr, IsTrue};
 ghost use Rattle.hs_entries.specs.Place.{leads, passes, ends, next_place};
 ghost use Rattle.hs_entries.specs.Entry.{is_too_long as too_long};
+ghost use Rattle.hs_entries.specs.Calls.{UsesSource, ReadFails};
 
 use crate::input_fault::InputFault;
 use crate::item::MOST_BYTES;
@@ -44,7 +44,7 @@ pub struct Window {
 }
 
 impl Window {
-    ghost use Rattle.hs_entries.specs.Window.{skipped_of, begun_of, left_of, ahead_of, room_of, IsSound, IsAtEnd, IsFresh};
+    ghost use Rattle.hs_entries.specs.Window.{begun_of, left_of, ahead_of, room_of, IsSound, IsAtEnd, IsFresh, Refilled, GetsBytes};
 
     /// No bytes, of which so many may be used. Takes no memory.
     pub fn new(alloc: Global, room: u64) -> Window
@@ -224,21 +224,14 @@ impl Window {
         requires kept { length (begun_of self.old) < MOST_BYTES }
         requires looked { left_of self.old ≡ [] }
         ensures sound { IsSound self.new }
-        ensures fresh { IsFresh self.old → OnOk result (IsFresh self.new) }
-        ensures begun { OnOk result (begun_of self.new ≡ begun_of self.old) }
-        ensures skipped { OnOk result (skipped_of self.new ≡ []) }
-        ensures place { OnOk result (self.new.place ≡ self.old.place) }
+        ensures refilled { IfOk result (λ more. Refilled self.old more self.new) }
         ensures room { self.new.room ≡ self.old.room }
         ensures passed { room_of self.new ≤ room_of self.old }
-        ensures bytes { S.tells → OnOk result (left_of self.new ++ S.unread source.new ≡ S.unread source.old) }
-        ensures more { IfOk result (λ more. IsTrue more ↔ (0 < length (left_of self.new))) }
-        ensures end { S.tells → IfOk result (λ more. more ≡ false → S.unread source.new ≡ []) }
-        ensures fault { IsErrOf result InputFault.Fault → Rose (S.input_faults source.old) (S.input_faults source.new) }
-        ensures too_long { IsErrOf result InputFault.TooLong → ⊥ }
+        ensures bytes { S.tells → IfOk result (λ more. GetsBytes (S.unread source.old) more (left_of self.new) (S.unread source.new)) }
         ensures one { OnOk result (S.reads source.old source.new (left_of self.new)) }
         ensures err { OnErr result ((source.new ≡ source.old) ⊎ S.reads source.old source.new []) }
-        ensures later { S.input_faults source.old ≤ S.input_faults source.new }
-        ensures only { S.only_input source.old source.new }
+        ensures fails { IfErr result (ReadFails S.Source source.old source.new) }
+        ensures uses { UsesSource S.Source source.old source.new }
     {
         self.make_room()?;
         prove!(self.buffer.len() - self.end >= MOST_BYTES);

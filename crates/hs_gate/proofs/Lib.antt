@@ -1,4 +1,5 @@
 pub mod Anew
+pub mod AtHand
 pub mod Batches
 pub mod Carried
 pub mod Fronts

@@ -2,6 +2,7 @@ pub mod Crash
 pub mod Faults
 pub mod Gated
 pub mod Groups
+pub mod Reading
 pub mod Rewriting
 pub mod Scan
 pub mod Spelled

@@ -5,8 +5,8 @@ use Rattle.hs_gate.specs.declared.window.Window.{Window}
 use Rattle.hs_gate.specs.declared.window.TheConstants.{WINDOW_BYTES}
 
 pub record IsSound (window : Window) : Type 0 where
-  pub size : length window.buffer.items ≡ WINDOW_BYTES
-  pub within : window.count ≤ WINDOW_BYTES
+  pub size : WINDOW_BYTES ≤ length window.buffer.items
+  pub within : window.count ≤ length window.buffer.items
 
 -- the bytes at hand are those of the file
 abbrev pub Shows : Window → List ℕ → Type 0

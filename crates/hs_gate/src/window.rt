@@ -1,5 +1,5 @@
 // Bytes of a file at hand.
-ghost use Rattle.std.specs.Prelude.{◌≡◌, ◌+◌, ◌-◌, ◌^◌, ◌<◌, ◌≤◌, min, length, take, drop, IfOk, OnOk, IsTrue};
+ghost use Rattle.std.specs.Prelude.{◌≡◌, ◌+◌, ◌-◌, ◌^◌, ◌<◌, ◌≤◌, ℕ, List, min, length, take, drop, IfOk, OnOk, IsTrue};
 ghost use Rattle.hs_host.specs.Files.{of, IsOpen};
 ghost use Rattle.hs_host.specs.Used.{Told, ReadsFiles};
 ghost use Rattle.hs_gate.specs.Faults.{FailsWith};
@@ -9,7 +9,7 @@ use crate::reading::read_front;
 use hs_host::{FileKind, Host};
 use std::alloc::{AllocError, Global};
 
-/// How many bytes are brought at once.
+/// How many bytes are brought at once, where no more are needed.
 pub const WINDOW_BYTES: usize = 65_536;
 
 /// Some bytes of a file, one behind the other.
@@ -56,7 +56,8 @@ impl Window {
         self.base <= at && at - self.base + count <= self.count as u64
     }
 
-    /// Brings bytes from a place on, where the file has `left` more: at least as many as `need` says.
+    /// Brings bytes from a place on, where the file has `left` more: at least as many as `need` says. Where they don't fit
+    /// in the window, it is made longer. `NoMemory` is free.
     #[inline]
     pub fn bring<H: Host>(
         &mut self,
@@ -70,7 +71,6 @@ impl Window {
         requires opened { IsOpen (H.standing host.old) }
         requires room { at + left < 2 ^ 64 }
         requires needed { need ≤ left }
-        requires small { need ≤ WINDOW_BYTES }
         requires within { Told H.Source H.Host.own host.old → at + left ≤ length (of (H.files host.old) file) }
         requires shows { Told H.Source H.Host.own host.old → Shows self.old (of (H.files host.old) file) }
         ensures sound { IsSound self.new }
@@ -82,7 +82,22 @@ impl Window {
         if self.has(at, need) {
             return Ok(());
         }
+        self.widen(need)?;
         self.fill(host, file, at, left)
+    }
+
+    // Makes room for so many bytes. The bytes at hand stay.
+    fn widen(&mut self, need: u64) -> Result<(), AllocError>
+        requires sound { IsSound self.old }
+        ensures sound { IsSound self.new }
+        ensures room { OnOk result (need ≤ length self.new.buffer.items) }
+        ensures shows { (bytes : List ℕ) → Shows self.old bytes → Shows self.new bytes }
+    {
+        let need = need as usize;
+        if need <= self.buffer.len() {
+            return Ok(());
+        }
+        self.buffer.resize(need, 0)
     }
 
     // Reads as many bytes as there is room for.
@@ -99,12 +114,12 @@ impl Window {
         requires within { Told H.Source H.Host.own host.old → at + left ≤ length (of (H.files host.old) file) }
         ensures sound { IsSound self.new }
         ensures base { OnOk result (self.new.base ≡ at) }
-        ensures count { OnOk result (self.new.count ≡ min left WINDOW_BYTES) }
+        ensures count { OnOk result (self.new.count ≡ min left (length self.old.buffer.items)) }
         ensures shows { Told H.Source H.Host.own host.old → OnOk result (Shows self.new (of (H.files host.new) file)) }
         ensures reads { ReadsFiles H.Source H.Host.own host.old host.new }
         ensures fails { FailsWith (H.disk_faults host.old) (H.disk_faults host.new) result }
     {
-        let count = left.min(WINDOW_BYTES as u64) as usize;
+        let count = left.min(self.buffer.len() as u64) as usize;
         read_front(host, file, at, &mut self.buffer, count)?;
         self.base = at;
         self.count = count;

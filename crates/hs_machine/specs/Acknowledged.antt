@@ -1,7 +1,8 @@
 -- Which commits an output acknowledges, read off its bytes and off its lines.
-use Rattle.std.specs.Prelude.{◌≡◌, ◌⊎◌, ℕ, ◌<◌, ◌≤◌, ◌^◌, ◌&&◌, nat_le, max, Bool, true, false, List, [], ◌∷◌, ◌++◌, None, Some, codes, if◌then◌else◌}
+use Rattle.std.specs.Prelude.{◌≡◌, ◌⊎◌, ℕ, ◌<◌, ◌≤◌, ◌^◌, max, true, false, List, [], ◌∷◌, ◌++◌, None, Some, codes, if◌then◌else◌}
 use Rattle.std.specs.List.{list_all}
 use Rattle.hs_entries.specs.Parts.{lacks}
+pub use Rattle.hs_entries.specs.Entry.{is_digit}
 use Rattle.hs_machine.specs.declared.refusal.Refusal.{Refusal}
 use Rattle.hs_machine.specs.declared.refusal.Refusal.TheVariants.{TooLong, Entry, Sessions, NotBuilt, NoSuch, Exists}
 use Rattle.hs_machine.specs.Lines.{Line, OpenedAt, ClosedAt, RowOf, OkOf, RefusedOf, committed_text}
@@ -44,10 +45,6 @@ EndsLine out = (out ≡ []) ⊎ ((line : List ℕ) × (out ≡ line ++ codes "\n
 pub record AcknowledgesLines (out : List ℕ) (most : ℕ) : Type 0 where
   pub told : AcknowledgesAtMost out most
   pub ends : EndsLine out
-
--- the digits
-abbrev pub is_digit : ℕ → Bool
-is_digit b = nat_le 48 b && nat_le b 57
 
 -- what stands behind the last space
 abbrev pub last_word : List ℕ → List ℕ

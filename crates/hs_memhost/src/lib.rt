@@ -11,8 +11,6 @@ mod input;
 mod memory;
 mod mounting;
 mod never;
-#[cfg(test)]
-mod tests;
 
 pub use call_list::CallList;
 pub use images::Images;

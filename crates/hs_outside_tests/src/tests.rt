@@ -2,3 +2,4 @@
 mod entries;
 mod gates;
 mod logs;
+mod support;

@@ -30,7 +30,7 @@ use Rattle.hs_builder.specs.Leaves as leaves
 use Rattle.hs_builder.specs.Leaves.{number_in, units_of}
 use Rattle.hs_builder.specs.LawfulParts.{LawfulStatement, AreLawful, TopIs, TopTwoAre, IsPrecision, IsScaled, IsLength, IsPositive, IsUnsigned, HasFewDigits, IsFit, IsLawfulBehind}
 use Rattle.hs_builder.specs.MarkSteps.{leaf_step, step, no_parts, topmost}
-use Rattle.hs_builder.specs.Steps.{Step, stands, deep, wrong, and_then, lift, natural}
+use Rattle.hs_builder.specs.Steps.{Step, stands, deep, wrong, deepened, and_then, lift, natural}
 use Rattle.hs_builder.specs.declared.mark.Mark.{Mark}
 use Rattle.hs_builder.specs.declared.mark.Mark.TheVariants as any
 use Rattle.hs_builder.specs.declared.mark.LeafMark.{LeafMark}
@@ -377,9 +377,14 @@ module _ (text : List ℕ) (tokens : List Token) where
 
   -- ---- and what is known then holds
 
+  deepened_kept : {S : Type 0} (P : S → Type 0) (s : Step S) → Then P s → Then P (deepened s)
+  deepened_kept P (stands z) h = h
+  deepened_kept P (deep z) h = h
+  deepened_kept P wrong h = tt
+
   anyway : (taken : ℕ) (s : Step Parts) → Then (λ (z : Parts). Holds (only false) taken z) s
   anyway taken (stands p) = nothing_holds taken p
-  anyway taken deep = tt
+  anyway taken (deep p) = nothing_holds taken p
   anyway taken wrong = tt
 
   whole_now : (a b : ℕ) (t : Token) (below : Bool) → nat_le b above ≡ below → IsBetween a b t
@@ -480,7 +485,7 @@ module _ (text : List ℕ) (tokens : List Token) where
 
   and_kept : (s : Step Parts) (f : Parts → Step Parts) (P : Parts → Type 0) → IsLawfulBehind s → Then P s → ((z : Parts) → AreLawful z → P z → Then (λ (y : Parts). AreLawful y) (f z)) → Then (λ (y : Parts). AreLawful y) (and_then s f)
   and_kept (stands z) f P l h g = g z l h
-  and_kept deep f P l h g = tt
+  and_kept (deep z) f P l h g = deepened_kept (λ (y : Parts). AreLawful y) (f z) (g z l h)
   and_kept wrong f P l h g = tt
 
   -- the two numbers of a scaled type are read one behind the other
@@ -532,7 +537,7 @@ module _ (text : List ℕ) (tokens : List Token) where
 
   then_topmost : (s : Step Parts) → Then (λ (y : Parts). AreLawful y) s → Then LawfulStatement (and_then s (λ p. topmost p.statements))
   then_topmost (stands p) l = topmost_lawful p.statements l.statements
-  then_topmost deep l = tt
+  then_topmost (deep p) l = deepened_kept LawfulStatement (topmost p.statements) (topmost_lawful p.statements l.statements)
   then_topmost wrong l = tt
 
   -- the tree that the items of a statement build of sound tokens is lawful

@@ -1,5 +1,4 @@
 pub mod Acting
-pub mod CoveringBuilding
 pub mod Parsing
 pub mod RuleEffects
 pub mod Sentences

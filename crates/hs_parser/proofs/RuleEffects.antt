@@ -1,6 +1,6 @@
 -- By rule of the grammar, what it takes from the stacks and leaves on them, made by grammar/make_effects.py.
 use Rattle.std.specs.Prelude.{ℕ, List, [], ◌∷◌, Some, None}
-use Rattle.hs_builder.proofs.Effects.{place, name, names, alias, flag, number, text, literal, type, e, es, case, form, field, count, select, table, from, rows, body, query, target, tuple, tuples, update, delete, locks, definition, column, header, key, action, constraint, modes, statement}
+use Rattle.hs_builder.proofs.Effects.{place, name, names, alias, flag, number, text, literal, type, e, es, case, form, field, count, select, table, from, rows, body, query, target, tuple, tuples, update, locks, definition, column, header, key, action, constraint, modes, statement, optional}
 use Rattle.hs_parser.proofs.Typing.{Outcome}
 
 abbrev in_any : List ℕ → Outcome
@@ -50,10 +50,10 @@ needs =
     [] ∷  -- outer
     [] ∷  -- table
     [] ∷  -- as
-    (select ∷ []) ∷  -- where
+    [] ∷  -- where
     (select ∷ []) ∷  -- group
     (select ∷ []) ∷  -- group_more
-    (select ∷ []) ∷  -- having
+    [] ∷  -- having
     [] ∷  -- es
     (es ∷ []) ∷  -- es_more
     (rows ∷ []) ∷  -- rows
@@ -81,12 +81,12 @@ needs =
     (tuple ∷ []) ∷  -- mixed_value
     (target ∷ tuples ∷ []) ∷  -- mixed_tuples
     [] ∷  -- update
-    (update ∷ []) ∷  -- update_where
+    [] ∷  -- update_where
     (update ∷ []) ∷  -- pairs_more
     (update ∷ []) ∷  -- pair
     (name ∷ update ∷ []) ∷  -- value
     [] ∷  -- delete
-    (delete ∷ []) ∷  -- delete_where
+    [] ∷  -- delete_where
     [] ∷  -- lock
     (locks ∷ []) ∷  -- claims_more
     (locks ∷ []) ∷  -- claim
@@ -151,7 +151,7 @@ needs =
     [] ∷  -- simple
     (name ∷ []) ∷  -- qualified
     (case ∷ []) ∷  -- arms
-    (case ∷ []) ∷  -- else
+    [] ∷  -- else
     (place ∷ e ∷ e ∷ []) ∷  -- for
     (place ∷ []) ∷  -- trim
     (place ∷ form ∷ []) ∷  -- trim_side
@@ -219,10 +219,10 @@ results =
     (in_any [] ∷ []) ∷  -- outer
     (in_any (table ∷ []) ∷ []) ∷  -- table
     (in_any [] ∷ []) ∷  -- as
-    (in_any (select ∷ []) ∷ []) ∷  -- where
+    (in_any (optional ∷ []) ∷ []) ∷  -- where
     (in_any (select ∷ []) ∷ []) ∷  -- group
     (in_any (select ∷ []) ∷ []) ∷  -- group_more
-    (in_any (select ∷ []) ∷ []) ∷  -- having
+    (in_any (optional ∷ []) ∷ []) ∷  -- having
     (in_any (es ∷ []) ∷ []) ∷  -- es
     (in_any (es ∷ []) ∷ []) ∷  -- es_more
     (in_any (rows ∷ []) ∷ []) ∷  -- rows
@@ -250,12 +250,12 @@ results =
     (in_any (tuple ∷ []) ∷ []) ∷  -- mixed_value
     (in_any (statement ∷ []) ∷ []) ∷  -- mixed_tuples
     (in_any (statement ∷ []) ∷ []) ∷  -- update
-    (in_any (update ∷ []) ∷ []) ∷  -- update_where
+    (in_any (optional ∷ []) ∷ []) ∷  -- update_where
     (in_any (update ∷ []) ∷ []) ∷  -- pairs_more
     (in_any (update ∷ []) ∷ []) ∷  -- pair
     (in_any (update ∷ []) ∷ []) ∷  -- value
     (in_any (statement ∷ []) ∷ []) ∷  -- delete
-    (in_any (delete ∷ []) ∷ []) ∷  -- delete_where
+    (in_any (optional ∷ []) ∷ []) ∷  -- delete_where
     (in_any (statement ∷ []) ∷ []) ∷  -- lock
     (in_any (locks ∷ []) ∷ []) ∷  -- claims_more
     (in_any (locks ∷ []) ∷ []) ∷  -- claim
@@ -320,7 +320,7 @@ results =
     (in_any (e ∷ []) ∷ []) ∷  -- simple
     (in_any (e ∷ []) ∷ []) ∷  -- qualified
     (in_any (case ∷ []) ∷ []) ∷  -- arms
-    (in_any (case ∷ []) ∷ []) ∷  -- else
+    (in_any (optional ∷ []) ∷ []) ∷  -- else
     (in_any (e ∷ []) ∷ []) ∷  -- for
     (in_any (e ∷ []) ∷ []) ∷  -- trim
     (in_any (e ∷ []) ∷ []) ∷  -- trim_side

@@ -21,7 +21,7 @@ use Rattle.hs_lexer.specs.Pieces.Spells.{word, whole, pointed, quoted, text, uni
 use Rattle.hs_lexer.specs.Tokens.{IsShortNumber, IsSoundAs}
 use Rattle.hs_syntax.specs.Classes.{lookup, word_class, nothing, sign_class, value_after, whole_class, number_class, is_digit_text, text_class, class_in, class_of}
 use Rattle.hs_syntax.specs.Names.{number_0, number_1, number_38, number_4000, above, fraction, digit_text, other_text, identifier}
-use Rattle.hs_syntax.specs.Words.{words, signs}
+use Rattle.hs_syntax.specs.Words.{keywords, signs}
 use Rattle.hs_builder.specs.Leaves.{with_digit, units_of, scale_of, number_in}
 
 -- ---- which kind of token has a class
@@ -45,7 +45,7 @@ is_word_class c = nat_lt other_text c && not (is_sign_class c)
 
 word_above : (spelling : List ℕ) → T (nat_lt other_text (word_class spelling))
 unfolding word_class
-word_above spelling = lookup_all (nat_lt other_text) words spelling identifier tt tt
+word_above spelling = lookup_all (nat_lt other_text) keywords spelling identifier tt tt
 
 sign_above : (sign : List ℕ) → T (nat_lt other_text (sign_class sign))
 unfolding sign_class

@@ -30,9 +30,21 @@ built text tokens taken (item.Mark n ∷ items) p = and_then (marked text tokens
 abbrev pub tree_of : List ℕ → List Token → List Item → Step Stmt
 tree_of text tokens items = and_then (built text tokens 0 items no_parts) (λ p. topmost p.statements)
 
+-- a tree that is deeper than 256 stands behind it, or none
+abbrev pub StandsNot : {S : Type 0} → Step S → Type 0
+StandsNot (stands s) = ⊥
+StandsNot (deep s) = Unit {0}
+StandsNot wrong = Unit {0}
+
 -- what a call answers and leaves, that does what an item says
 abbrev pub Acts : List ℕ → List Token → ℕ → Item → Parts → Result ℕ BuildFault → Parts → Type 0
 Acts text tokens taken item before (Ok now) after =
     (now ≤ taken + 1) × ((items : List Item) → built text tokens taken (item ∷ items) before ≡ built text tokens now items after)
-Acts text tokens taken item before (Err Depth) after = (items : List Item) → built text tokens taken (item ∷ items) before ≡ deep
+Acts text tokens taken item before (Err Depth) after = (items : List Item) → StandsNot (built text tokens taken (item ∷ items) before)
 Acts text tokens taken item before (Err NoMemory) after = Unit {0}
+
+-- what a call answers that builds a statement
+abbrev pub Builds : Step Stmt → Result Stmt BuildFault → Type 0
+Builds step (Ok statement) = step ≡ stands statement
+Builds step (Err Depth) = StandsNot step
+Builds step (Err NoMemory) = Unit {0}

@@ -75,9 +75,9 @@ steps =
     mark.Query q.CrossJoin ∷  -- cross_join
     mark.Query q.Table ∷  -- table
     mark.Query q.Derived ∷  -- derived
-    mark.Query q.Where ∷  -- where_mark
+    mark.Expression e.Written ∷  -- written
     mark.Query q.Group ∷  -- group
-    mark.Query q.Having ∷  -- having
+    mark.Expression e.Unwritten ∷  -- unwritten
     mark.Expression e.First ∷  -- first
     mark.Expression e.Next ∷  -- next
     mark.Query q.Row ∷  -- row
@@ -97,12 +97,12 @@ steps =
     mark.Change c.InsertTuples ∷  -- insert_tuples
     mark.Change c.Update ∷  -- update
     mark.Change c.UpdateStatement ∷  -- update_statement
-    mark.Change c.UpdateWhere ∷  -- update_where
+    mark.Expression e.InList ∷  -- in_list
     mark.Change c.Assign ∷  -- assign
     mark.Change c.AssignDefault ∷  -- assign_default
     mark.Change c.Delete ∷  -- delete
     mark.Change c.DeleteStatement ∷  -- delete_statement
-    mark.Change c.DeleteWhere ∷  -- delete_where
+    mark.Expression e.InQuery ∷  -- in_query
     mark.Change c.Lock ∷  -- lock
     mark.Change c.LockStatement ∷  -- lock_statement
     mark.Change (c.Locked false) ∷  -- lock_read
@@ -206,7 +206,7 @@ steps =
     mark.Expression e.Qualified ∷  -- qualified
     mark.Expression e.Column ∷  -- column
     mark.Function f.Arm ∷  -- arm
-    mark.Function f.Else ∷  -- else
+    mark.Expression e.Subquery ∷  -- subquery
     mark.Function f.SubstringFor ∷  -- substring_for
     mark.Function f.Substring ∷  -- substring
     mark.Function (f.Form TrimForm.Leading) ∷  -- leading
@@ -226,7 +226,4 @@ steps =
     mark.Function (f.Aggregate Aggregate.Count) ∷  -- count
     mark.Expression e.Bracket ∷  -- bracket
     mark.Expression e.BodySubquery ∷  -- body_subquery
-    mark.Expression e.Subquery ∷  -- subquery
-    mark.Expression e.InQuery ∷  -- in_query
-    mark.Expression e.InList ∷  -- in_list
     []

@@ -1,8 +1,8 @@
 // The tree of a sentence: its items, one after another, on stacks of parts.
 ghost use Rattle.std.specs.Prelude.{◌≡◌, ◌+◌, ◌-◌, ◌<◌, ◌≤◌, MatchResult, MatchOption, length, slice_get, Some, None};
 ghost use Rattle.hs_builder.specs.MarkSteps.{step, no_parts};
-ghost use Rattle.hs_parser.specs.Building.{token_at, marked, built, tree_of, Acts};
-ghost use Rattle.hs_builder.specs.Steps.{Gives, Answers};
+ghost use Rattle.hs_parser.specs.Building.{token_at, marked, built, tree_of, Acts, Builds};
+ghost use Rattle.hs_builder.specs.Steps.{Gives};
 
 use crate::marks::MARKS;
 use hs_ast::Stmt;
@@ -83,15 +83,15 @@ fn act(
     }
 }
 
-/// The statement that the items of a sentence build of the tokens of a text. `Depth` comes exactly where one of its trees
-/// would be deeper than 256.
+/// The statement that the items of a sentence build of the tokens of a text. `Depth` comes where one of its trees is deeper
+/// than 256.
 pub fn build(
     alloc: Global,
     text: &str,
     tokens: &[Token],
     items: &[Item],
 ) -> Result<Stmt, BuildFault>
-    ensures { Answers (tree_of text.now tokens.now items.now) result }
+    ensures { Builds (tree_of text.now tokens.now items.now) result }
 {
     let mut parts = Parts::new(alloc);
     let mut taken = 0;

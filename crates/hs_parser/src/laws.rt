@@ -8,7 +8,8 @@ ghost use Rattle.hs_lexer.specs.declared.token.Token.{Token};
 ghost use Rattle.hs_parser.specs.Building.{built};
 ghost use Rattle.hs_parser.specs.Sentences.{NoneMissing};
 
-/// No step of a sentence's building finds a part missing: the sentence's tree stands, or is too deep. Nothing is done.
+/// No step of a sentence's building finds a part missing, and none loses one: the sentence's tree is there, and a tree on the way was
+/// deeper than 256 exactly where it is. Nothing is done.
 pub fn no_part_is_missing()
     ensures { NoneMissing }
 {}

@@ -8,7 +8,7 @@ use hs_builder::{
     SessionMark,
 };
 
-pub const MARKS: [Mark; 203] = [
+pub const MARKS: [Mark; 200] = [
     Mark::Change(ChangeMark::QueryStatement),
     Mark::Session(SessionMark::Modes),
     Mark::Session(SessionMark::Start),
@@ -58,9 +58,9 @@ pub const MARKS: [Mark; 203] = [
     Mark::Query(QueryMark::CrossJoin),
     Mark::Query(QueryMark::Table),
     Mark::Query(QueryMark::Derived),
-    Mark::Query(QueryMark::Where),
+    Mark::Expression(ExpressionMark::Written),
     Mark::Query(QueryMark::Group),
-    Mark::Query(QueryMark::Having),
+    Mark::Expression(ExpressionMark::Unwritten),
     Mark::Expression(ExpressionMark::First),
     Mark::Expression(ExpressionMark::Next),
     Mark::Query(QueryMark::Row),
@@ -80,12 +80,12 @@ pub const MARKS: [Mark; 203] = [
     Mark::Change(ChangeMark::InsertTuples),
     Mark::Change(ChangeMark::Update),
     Mark::Change(ChangeMark::UpdateStatement),
-    Mark::Change(ChangeMark::UpdateWhere),
+    Mark::Expression(ExpressionMark::InList),
     Mark::Change(ChangeMark::Assign),
     Mark::Change(ChangeMark::AssignDefault),
     Mark::Change(ChangeMark::Delete),
     Mark::Change(ChangeMark::DeleteStatement),
-    Mark::Change(ChangeMark::DeleteWhere),
+    Mark::Expression(ExpressionMark::InQuery),
     Mark::Change(ChangeMark::Lock),
     Mark::Change(ChangeMark::LockStatement),
     Mark::Change(ChangeMark::Locked(false)),
@@ -189,7 +189,7 @@ pub const MARKS: [Mark; 203] = [
     Mark::Expression(ExpressionMark::Qualified),
     Mark::Expression(ExpressionMark::Column),
     Mark::Function(FunctionMark::Arm),
-    Mark::Function(FunctionMark::Else),
+    Mark::Expression(ExpressionMark::Subquery),
     Mark::Function(FunctionMark::SubstringFor),
     Mark::Function(FunctionMark::Substring),
     Mark::Function(FunctionMark::Form(TrimForm::Leading)),
@@ -209,7 +209,4 @@ pub const MARKS: [Mark; 203] = [
     Mark::Function(FunctionMark::Aggregate(Aggregate::Count)),
     Mark::Expression(ExpressionMark::Bracket),
     Mark::Expression(ExpressionMark::BodySubquery),
-    Mark::Expression(ExpressionMark::Subquery),
-    Mark::Expression(ExpressionMark::InQuery),
-    Mark::Expression(ExpressionMark::InList),
 ];

@@ -81,8 +81,8 @@ fn opens_too_many(text: &str, tokens: &[Token]) -> bool
 ///
 /// `At` has the place of the first token with which no statement begins any more; the text's length, where more tokens are
 /// missing. `NotOffered` has it where that token stands there in the grammar as one that isn't offered. `Depth` comes exactly
-/// for a statement whose tree is deeper than 256 or that has more than 1,024 parentheses open at one place, and `NoMemory` only
-/// where memory is refused. Where the tokens are those that the lexer reads in this text, the names, numbers and types of the tree
+/// for a statement whose tree, built without a bound, is deeper than 256 or that has more than 1,024 parentheses open at one place,
+/// and `NoMemory` only where memory is refused. Where the tokens are those that the lexer reads in this text, the names, numbers and types of the tree
 /// are lawful.
 #[tactic(auto, using(crate::proofs::Parsing::grown, crate::proofs::Parsing::faulted, crate::proofs::Parsing::read_grown, crate::proofs::Parsing::read_faulted, crate::proofs::Parsing::fits))]
 pub fn statement(alloc: Global, text: &str, tokens: &Tokens) -> Result<Stmt, SyntaxFault>
@@ -112,7 +112,7 @@ fn fault_at(text: &str, tokens: &[Token], fault: Fault) -> SyntaxFault
 
 /// The tree of a sentence, unless it or its parentheses are too deep.
 fn tree(alloc: Global, text: &str, tokens: &[Token], items: &[Item]) -> Result<Stmt, SyntaxFault>
-    ensures { spec.Grown (spec.bounded_tree_of text.now tokens.now items.now) result }
+    ensures { spec.Grown text.now tokens.now items.now result }
 {
     if opens_too_many(text, tokens) {
         return Err(SyntaxFault::Depth);

@@ -19,6 +19,7 @@ fn utf8(bytes: &[u8]) -> Option<&str>
 }
 
 /// A text of so many bytes at the front, and the bytes behind it.
+#[inline(always)]
 fn chars(len: usize, bytes: &[u8]) -> Option<(ValueRef<'_>, &[u8])>
     ensures none { IfNone result (chars_at len bytes.now ≡ None) }
     ensures some { IfSome result (λ found. chars_at len bytes.now ≡ Some (seen found.0, found.1.now)) }
@@ -28,6 +29,7 @@ fn chars(len: usize, bytes: &[u8]) -> Option<(ValueRef<'_>, &[u8])>
 }
 
 /// What stands behind the tag of a value that is not NULL, and the bytes behind it.
+#[inline(always)]
 fn body<'a>(sql_type: &SqlType, bytes: &'a [u8]) -> Option<(ValueRef<'a>, &'a [u8])>
     ensures none { IfNone result (body_at sql_type.now bytes.now ≡ None) }
     ensures some { IfSome result (λ found. body_at sql_type.now bytes.now ≡ Some (seen found.0, found.1.now)) }
@@ -77,6 +79,7 @@ fn body<'a>(sql_type: &SqlType, bytes: &'a [u8]) -> Option<(ValueRef<'a>, &'a [u
 }
 
 /// The value at the front of bytes, if one of this type stands there, and the bytes behind it.
+#[inline(always)]
 pub(crate) fn value<'a>(sql_type: &SqlType, bytes: &'a [u8]) -> Option<(ValueRef<'a>, &'a [u8])>
     ensures none { IfNone result (value_at sql_type.now bytes.now ≡ None) }
     ensures some { IfSome result (λ found. value_at sql_type.now bytes.now ≡ Some (seen found.0, found.1.now)) }
@@ -96,7 +99,7 @@ pub(crate) fn value<'a>(sql_type: &SqlType, bytes: &'a [u8]) -> Option<(ValueRef
 }
 
 /// A text of so many bytes that is known to stand at the front, and the bytes behind it.
-#[inline]
+#[inline(always)]
 fn known_chars(len: usize, bytes: &[u8]) -> (ValueRef<'_>, &[u8])
     requires { is_some (chars_at len bytes.now) ≡ true }
     ensures { chars_at len bytes.now ≡ Some (seen result.0, result.1.now) }
@@ -107,7 +110,7 @@ fn known_chars(len: usize, bytes: &[u8]) -> (ValueRef<'_>, &[u8])
 }
 
 /// A text that is known to stand at the front, behind its length.
-#[inline]
+#[inline(always)]
 fn known_text(bytes: &[u8]) -> (ValueRef<'_>, &[u8])
     requires { is_some (text_at bytes.now) ≡ true }
     ensures { text_at bytes.now ≡ Some (seen result.0, result.1.now) }
@@ -121,7 +124,7 @@ fn known_text(bytes: &[u8]) -> (ValueRef<'_>, &[u8])
 }
 
 /// What is known to stand behind a tag.
-#[inline]
+#[inline(always)]
 fn known_body<'a>(sql_type: &SqlType, bytes: &'a [u8]) -> (ValueRef<'a>, &'a [u8])
     requires { is_some (body_at sql_type.now bytes.now) ≡ true }
     ensures { body_at sql_type.now bytes.now ≡ Some (seen result.0, result.1.now) }
@@ -136,7 +139,7 @@ fn known_body<'a>(sql_type: &SqlType, bytes: &'a [u8]) -> (ValueRef<'a>, &'a [u8
 }
 
 /// The value at the front of bytes where one of this type is known to stand, and the bytes behind it.
-#[inline]
+#[inline(always)]
 pub(crate) fn known_value<'a>(sql_type: &SqlType, bytes: &'a [u8]) -> (ValueRef<'a>, &'a [u8])
     requires { is_some (value_at sql_type.now bytes.now) ≡ true }
     ensures { value_at sql_type.now bytes.now ≡ Some (seen result.0, result.1.now) }

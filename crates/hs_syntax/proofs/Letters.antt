@@ -10,8 +10,8 @@ use Rattle.std.specs.List.{slice_range}
 use Rattle.std.proofs.lemmas.List.{length-map, drop-map, take-map}
 use Rattle.hs_syntax.specs.Classes.{lookup, word_class}
 use Rattle.hs_syntax.specs.Letters.{letter_of, between, lookup_by_letter}
-use Rattle.hs_syntax.specs.Words.{words}
-use Rattle.hs_syntax.specs.declared.words.TheConstants.{WORDS, STARTS, IDENTIFIER}
+use Rattle.hs_syntax.specs.Words.{keywords}
+use Rattle.hs_syntax.specs.declared.words.TheConstants.{KEYWORDS, STARTS, IDENTIFIER}
 
 -- ---- words that are equal without regard to case have one letter
 
@@ -56,11 +56,11 @@ taken f xs ys first end le within is =
 
 -- ---- the code's words are those of the grammar, and its starts are theirs
 
-same_words : map (λ entry. (entry.0.now, entry.1)) WORDS ≡ words
+same_words : map (λ entry. (entry.0.now, entry.1)) KEYWORDS ≡ keywords
 same_words = refl
 
 part : ℕ → List (List ℕ × ℕ)
-part n = between words (slice_index_or STARTS n 0) (slice_index_or STARTS (n + 1) 0)
+part n = between keywords (slice_index_or STARTS n 0) (slice_index_or STARTS (n + 1) 0)
 
 parts_from : ℕ → ℕ → List (List (List ℕ × ℕ))
 parts_from n zero = []
@@ -68,7 +68,7 @@ parts_from n (suc k) = part n ∷ parts_from (suc n) k
 
 letters_from : ℕ → ℕ → List (List (List ℕ × ℕ))
 letters_from n zero = []
-letters_from n (suc k) = with_letter n words ∷ letters_from (suc n) k
+letters_from n (suc k) = with_letter n keywords ∷ letters_from (suc n) k
 
 all_parts : parts_from 0 32 ≡ letters_from 0 32
 unfolding parts_from letters_from part with_letter
@@ -80,24 +80,24 @@ part_at n zero i within = absurd (omega (arith, within))
 part_at n (suc k) zero within = ap part (omega arith)
 part_at n (suc k) (suc i) within = part_at (suc n) k i (omega (arith, within)) ∙ ap part (omega arith)
 
-letter_at : (n k i : ℕ) → i < k → get_or (letters_from n k) i [] ≡ with_letter (n + i) words
+letter_at : (n k i : ℕ) → i < k → get_or (letters_from n k) i [] ≡ with_letter (n + i) keywords
 unfolding letters_from
 letter_at n zero i within = absurd (omega (arith, within))
-letter_at n (suc k) zero within = ap (λ m. with_letter m words) (omega arith)
-letter_at n (suc k) (suc i) within = letter_at (suc n) k i (omega (arith, within)) ∙ ap (λ m. with_letter m words) (omega arith)
+letter_at n (suc k) zero within = ap (λ m. with_letter m keywords) (omega arith)
+letter_at n (suc k) (suc i) within = letter_at (suc n) k i (omega (arith, within)) ∙ ap (λ m. with_letter m keywords) (omega arith)
 
-part_is : (n : ℕ) → n < 32 → part n ≡ with_letter n words
+part_is : (n : ℕ) → n < 32 → part n ≡ with_letter n keywords
 part_is n within =
     let same : 0 + n ≡ n = omega arith in
-    ap part (sym same) ∙ sym (part_at 0 32 n within) ∙ ap (λ l. get_or l n []) all_parts ∙ letter_at 0 32 n within ∙ ap (λ m. with_letter m words) same
+    ap part (sym same) ∙ sym (part_at 0 32 n within) ∙ ap (λ l. get_or l n []) all_parts ∙ letter_at 0 32 n within ∙ ap (λ m. with_letter m keywords) same
 
 letter_below : (word : List ℕ) → letter_of word < 32
 letter_below [] = omega arith
 letter_below (first ∷ rest) = mod_below first 32 (omega arith)
 
-pub by_letter : (word : List ℕ) → lookup_by_letter (map (λ entry. (entry.0.now, entry.1)) WORDS) STARTS word IDENTIFIER ≡ word_class word
+pub by_letter : (word : List ℕ) → lookup_by_letter (map (λ entry. (entry.0.now, entry.1)) KEYWORDS) STARTS word IDENTIFIER ≡ word_class word
 unfolding word_class part
 by_letter word =
     ap (λ l. lookup_by_letter l STARTS word IDENTIFIER) same_words
     ∙ ap (λ l. lookup l word IDENTIFIER) (part_is (letter_of word) (letter_below word))
-    ∙ among_them (letter_of word) words word IDENTIFIER refl
+    ∙ among_them (letter_of word) keywords word IDENTIFIER refl

@@ -24,13 +24,13 @@ claims =
     (claim ([]) (S.Rule 15 ∷ []) (to_any ([]) ∷ []) ∷ []) ∷
     (claim ([]) (S.Rule 16 ∷ []) (to_any ([]) ∷ []) ∷ []) ∷
     (claim ([]) (S.Rule 17 ∷ []) (to_any ([]) ∷ []) ∷ []) ∷
-    (claim ([]) (S.Rule 18 ∷ []) (to_any ([]) ∷ []) ∷ claim ([]) (S.Rule 158 ∷ []) (to_any (S.Take 48 ∷ S.Mark 201 ∷ []) ∷ owing (33 ∷ 26 ∷ []) (S.Rule 162 ∷ []) ∷ []) ∷ []) ∷
-    (claim ([]) (S.Rule 19 ∷ []) (to_any ([]) ∷ []) ∷ claim ([]) (S.Rule 150 ∷ []) (to_any (S.Rule 152 ∷ []) ∷ owing (33 ∷ []) (S.Rule 154 ∷ []) ∷ []) ∷ claim ([]) (S.Rule 158 ∷ []) (to_any (S.Mark 26 ∷ S.Rule 47 ∷ S.Rule 52 ∷ S.Take 48 ∷ S.Mark 201 ∷ []) ∷ owing (33 ∷ []) (S.Rule 162 ∷ []) ∷ []) ∷ []) ∷
-    (claim ([]) (S.Rule 20 ∷ []) (to_any ([]) ∷ []) ∷ claim (33 ∷ []) (S.Rule 154 ∷ []) (to_any (S.Rule 152 ∷ []) ∷ owing (33 ∷ []) (S.Rule 154 ∷ []) ∷ []) ∷ claim (33 ∷ []) (S.Rule 162 ∷ []) (to_any (S.Mark 26 ∷ S.Rule 47 ∷ S.Rule 52 ∷ S.Take 48 ∷ S.Mark 201 ∷ []) ∷ owing (33 ∷ []) (S.Rule 162 ∷ []) ∷ []) ∷ []) ∷
+    (claim ([]) (S.Rule 18 ∷ []) (to_any ([]) ∷ []) ∷ claim ([]) (S.Rule 158 ∷ []) (to_any (S.Take 48 ∷ S.Mark 76 ∷ []) ∷ owing (33 ∷ 26 ∷ []) (S.Rule 162 ∷ []) ∷ []) ∷ []) ∷
+    (claim ([]) (S.Rule 19 ∷ []) (to_any ([]) ∷ []) ∷ claim ([]) (S.Rule 150 ∷ []) (to_any (S.Rule 152 ∷ []) ∷ owing (33 ∷ []) (S.Rule 154 ∷ []) ∷ []) ∷ claim ([]) (S.Rule 158 ∷ []) (to_any (S.Mark 26 ∷ S.Rule 47 ∷ S.Rule 52 ∷ S.Take 48 ∷ S.Mark 76 ∷ []) ∷ owing (33 ∷ []) (S.Rule 162 ∷ []) ∷ []) ∷ []) ∷
+    (claim ([]) (S.Rule 20 ∷ []) (to_any ([]) ∷ []) ∷ claim (33 ∷ []) (S.Rule 154 ∷ []) (to_any (S.Rule 152 ∷ []) ∷ owing (33 ∷ []) (S.Rule 154 ∷ []) ∷ []) ∷ claim (33 ∷ []) (S.Rule 162 ∷ []) (to_any (S.Mark 26 ∷ S.Rule 47 ∷ S.Rule 52 ∷ S.Take 48 ∷ S.Mark 76 ∷ []) ∷ owing (33 ∷ []) (S.Rule 162 ∷ []) ∷ []) ∷ []) ∷
     (claim ([]) (S.Rule 21 ∷ []) (to_any ([]) ∷ []) ∷ []) ∷
-    (claim ([]) (S.Rule 22 ∷ []) (to_any ([]) ∷ []) ∷ claim ([]) (S.Rule 150 ∷ []) (to_any (S.Rule 20 ∷ S.Rule 152 ∷ []) ∷ owing (33 ∷ []) (S.Rule 154 ∷ []) ∷ []) ∷ claim ([]) (S.Rule 158 ∷ []) (to_any (S.Rule 20 ∷ S.Mark 26 ∷ S.Rule 47 ∷ S.Rule 52 ∷ S.Take 48 ∷ S.Mark 201 ∷ []) ∷ owing (33 ∷ []) (S.Rule 162 ∷ []) ∷ []) ∷ []) ∷
-    (claim ([]) (S.Rule 23 ∷ []) (to_any ([]) ∷ []) ∷ claim (33 ∷ []) (S.Rule 154 ∷ []) (to_any (S.Rule 20 ∷ S.Rule 152 ∷ []) ∷ owing (33 ∷ []) (S.Rule 154 ∷ []) ∷ []) ∷ claim (33 ∷ []) (S.Rule 162 ∷ []) (to_any (S.Rule 20 ∷ S.Mark 26 ∷ S.Rule 47 ∷ S.Rule 52 ∷ S.Take 48 ∷ S.Mark 201 ∷ []) ∷ owing (33 ∷ []) (S.Rule 162 ∷ []) ∷ []) ∷ []) ∷
-    (claim ([]) (S.Rule 24 ∷ []) (to_any ([]) ∷ []) ∷ claim ([]) (S.Rule 150 ∷ []) (to_any (S.Rule 23 ∷ S.Rule 20 ∷ S.Rule 152 ∷ []) ∷ owing (33 ∷ []) (S.Rule 154 ∷ []) ∷ []) ∷ claim ([]) (S.Rule 158 ∷ []) (to_any (S.Rule 23 ∷ S.Rule 20 ∷ S.Mark 26 ∷ S.Rule 47 ∷ S.Rule 52 ∷ S.Take 48 ∷ S.Mark 201 ∷ []) ∷ owing (33 ∷ []) (S.Rule 162 ∷ []) ∷ []) ∷ []) ∷
+    (claim ([]) (S.Rule 22 ∷ []) (to_any ([]) ∷ []) ∷ claim ([]) (S.Rule 150 ∷ []) (to_any (S.Rule 20 ∷ S.Rule 152 ∷ []) ∷ owing (33 ∷ []) (S.Rule 154 ∷ []) ∷ []) ∷ claim ([]) (S.Rule 158 ∷ []) (to_any (S.Rule 20 ∷ S.Mark 26 ∷ S.Rule 47 ∷ S.Rule 52 ∷ S.Take 48 ∷ S.Mark 76 ∷ []) ∷ owing (33 ∷ []) (S.Rule 162 ∷ []) ∷ []) ∷ []) ∷
+    (claim ([]) (S.Rule 23 ∷ []) (to_any ([]) ∷ []) ∷ claim (33 ∷ []) (S.Rule 154 ∷ []) (to_any (S.Rule 20 ∷ S.Rule 152 ∷ []) ∷ owing (33 ∷ []) (S.Rule 154 ∷ []) ∷ []) ∷ claim (33 ∷ []) (S.Rule 162 ∷ []) (to_any (S.Rule 20 ∷ S.Mark 26 ∷ S.Rule 47 ∷ S.Rule 52 ∷ S.Take 48 ∷ S.Mark 76 ∷ []) ∷ owing (33 ∷ []) (S.Rule 162 ∷ []) ∷ []) ∷ []) ∷
+    (claim ([]) (S.Rule 24 ∷ []) (to_any ([]) ∷ []) ∷ claim ([]) (S.Rule 150 ∷ []) (to_any (S.Rule 23 ∷ S.Rule 20 ∷ S.Rule 152 ∷ []) ∷ owing (33 ∷ []) (S.Rule 154 ∷ []) ∷ []) ∷ claim ([]) (S.Rule 158 ∷ []) (to_any (S.Rule 23 ∷ S.Rule 20 ∷ S.Mark 26 ∷ S.Rule 47 ∷ S.Rule 52 ∷ S.Take 48 ∷ S.Mark 76 ∷ []) ∷ owing (33 ∷ []) (S.Rule 162 ∷ []) ∷ []) ∷ []) ∷
     (claim ([]) (S.Rule 25 ∷ []) (to_any ([]) ∷ []) ∷ []) ∷
     (claim ([]) (S.Rule 26 ∷ []) (to_any ([]) ∷ []) ∷ []) ∷
     (claim ([]) (S.Rule 27 ∷ []) (to_any ([]) ∷ []) ∷ []) ∷
@@ -48,17 +48,17 @@ claims =
     (claim ([]) (S.Rule 39 ∷ []) (to_any ([]) ∷ []) ∷ []) ∷
     (claim ([]) (S.Rule 40 ∷ []) (to_any ([]) ∷ []) ∷ []) ∷
     (claim ([]) (S.Rule 41 ∷ []) (to_any ([]) ∷ []) ∷ []) ∷
-    (claim ([]) (S.Rule 42 ∷ []) (to_any ([]) ∷ []) ∷ claim ([]) (S.Rule 158 ∷ []) (to_any (S.Take 48 ∷ S.Mark 202 ∷ []) ∷ owing (199 ∷ 52 ∷ []) (S.Rule 162 ∷ []) ∷ []) ∷ []) ∷
-    (claim ([]) (S.Rule 43 ∷ []) (to_any ([]) ∷ []) ∷ claim (199 ∷ 52 ∷ []) (S.Rule 162 ∷ []) (to_any (S.Take 48 ∷ S.Mark 202 ∷ []) ∷ owing (199 ∷ 52 ∷ []) (S.Rule 162 ∷ []) ∷ []) ∷ []) ∷
+    (claim ([]) (S.Rule 42 ∷ []) (to_any ([]) ∷ []) ∷ claim ([]) (S.Rule 158 ∷ []) (to_any (S.Take 48 ∷ S.Mark 71 ∷ []) ∷ owing (199 ∷ 52 ∷ []) (S.Rule 162 ∷ []) ∷ []) ∷ []) ∷
+    (claim ([]) (S.Rule 43 ∷ []) (to_any ([]) ∷ []) ∷ claim (199 ∷ 52 ∷ []) (S.Rule 162 ∷ []) (to_any (S.Take 48 ∷ S.Mark 71 ∷ []) ∷ owing (199 ∷ 52 ∷ []) (S.Rule 162 ∷ []) ∷ []) ∷ []) ∷
     (claim ([]) (S.Rule 44 ∷ []) (to_any ([]) ∷ []) ∷ []) ∷
     (claim ([]) (S.Rule 45 ∷ []) (to_any ([]) ∷ []) ∷ []) ∷
     (claim ([]) (S.Rule 46 ∷ []) (to_any ([]) ∷ []) ∷ []) ∷
-    (claim ([]) (S.Rule 47 ∷ []) (to_any ([]) ∷ []) ∷ claim (33 ∷ 26 ∷ []) (S.Rule 162 ∷ []) (to_any (S.Rule 52 ∷ S.Take 48 ∷ S.Mark 201 ∷ []) ∷ owing (33 ∷ 26 ∷ []) (S.Rule 162 ∷ []) ∷ []) ∷ []) ∷
+    (claim ([]) (S.Rule 47 ∷ []) (to_any ([]) ∷ []) ∷ claim (33 ∷ 26 ∷ []) (S.Rule 162 ∷ []) (to_any (S.Rule 52 ∷ S.Take 48 ∷ S.Mark 76 ∷ []) ∷ owing (33 ∷ 26 ∷ []) (S.Rule 162 ∷ []) ∷ []) ∷ []) ∷
     (claim ([]) (S.Rule 48 ∷ []) (to_any ([]) ∷ []) ∷ []) ∷
     (claim ([]) (S.Rule 49 ∷ []) (to_any ([]) ∷ []) ∷ []) ∷
     (claim ([]) (S.Rule 50 ∷ []) (to_any ([]) ∷ []) ∷ []) ∷
     (claim ([]) (S.Rule 51 ∷ []) (to_any ([]) ∷ []) ∷ []) ∷
-    (claim ([]) (S.Rule 52 ∷ []) (to_any ([]) ∷ []) ∷ claim (33 ∷ 26 ∷ []) (S.Rule 162 ∷ []) (to_any (S.Take 48 ∷ S.Mark 201 ∷ []) ∷ owing (33 ∷ 26 ∷ []) (S.Rule 162 ∷ []) ∷ []) ∷ []) ∷
+    (claim ([]) (S.Rule 52 ∷ []) (to_any ([]) ∷ []) ∷ claim (33 ∷ 26 ∷ []) (S.Rule 162 ∷ []) (to_any (S.Take 48 ∷ S.Mark 76 ∷ []) ∷ owing (33 ∷ 26 ∷ []) (S.Rule 162 ∷ []) ∷ []) ∷ []) ∷
     (claim ([]) (S.Rule 53 ∷ []) (to_any ([]) ∷ []) ∷ []) ∷
     (claim ([]) (S.Rule 54 ∷ []) (to_any ([]) ∷ []) ∷ []) ∷
     (claim ([]) (S.Rule 55 ∷ []) (to_any ([]) ∷ []) ∷ []) ∷
@@ -300,13 +300,13 @@ all_runs =
     (take (by 101 (claimed 0 (both (claimed 0 (both (finish 0) (no))) (no)))) ∷ []) ∷
     (by 102 (finish 0) ∷ []) ∷
     (take (by 115 (claimed 0 (both (take (finish 0)) (no)))) ∷ []) ∷
-    (by 116 (finish 0) ∷ []) ∷
+    (take (by 116 (finish 0)) ∷ []) ∷
     (take (take (by 117 (claimed 0 (both (take (claimed 0 (both (finish 0) (no)))) (no))))) ∷ []) ∷
     (by 118 (finish 0) ∷ []) ∷
     (take (by 119 (claimed 0 (both (take (claimed 0 (both (finish 0) (no)))) (no)))) ∷ []) ∷
     (by 120 (finish 0) ∷ []) ∷
     (take (by 121 (claimed 0 (both (take (finish 0)) (no)))) ∷ []) ∷
-    (by 122 (finish 0) ∷ []) ∷
+    (take (by 122 (finish 0)) ∷ []) ∷
     (by 123 (claimed 0 (both (take (claimed 0 (both (finish 0) (no)))) (no))) ∷ claimed 2 (both (take (by 412 (claimed 0 (both (finish 0) (no))))) (both (take (claimed 1 (both (finish 0) (both (finish 1) (no))))) (no))) ∷ []) ∷
     (take (by 124 (claimed 0 (both (take (claimed 0 (both (finish 0) (no)))) (no)))) ∷ take (by 419 (claimed 0 (both (take (claimed 0 (both (finish 0) (no)))) (no)))) ∷ []) ∷
     (by 125 (finish 0) ∷ finish 1 ∷ []) ∷
@@ -368,10 +368,10 @@ all_runs =
     (by 178 (claimed 0 (both (take (finish 0)) (no))) ∷ []) ∷
     (take (take (by 179 (finish 0))) ∷ []) ∷
     (take (by 173 (claimed 0 (both (take (finish 0)) (no)))) ∷ []) ∷
-    (by 174 (finish 0) ∷ []) ∷
+    (take (by 174 (finish 0)) ∷ []) ∷
     (take (take (by 180 (claimed 0 (both (claimed 0 (both (take (claimed 0 (both (take (finish 0)) (no)))) (no))) (no))))) ∷ []) ∷
     (take (by 181 (claimed 0 (both (take (finish 0)) (no)))) ∷ []) ∷
-    (by 182 (finish 0) ∷ []) ∷
+    (take (by 182 (finish 0)) ∷ []) ∷
     (take (take (take (by 183 (claimed 0 (both (claimed 0 (both (take (finish 0)) (no))) (no)))))) ∷ []) ∷
     (take (by 184 (claimed 0 (both (claimed 0 (both (finish 0) (no))) (no)))) ∷ []) ∷
     (by 185 (finish 0) ∷ []) ∷
@@ -540,7 +540,7 @@ all_runs =
     (take (by 349 (claimed 0 (both (take (claimed 0 (both (take (claimed 0 (both (finish 0) (no)))) (no)))) (no)))) ∷ []) ∷
     (by 350 (finish 0) ∷ []) ∷
     (take (by 351 (claimed 0 (both (take (finish 0)) (no)))) ∷ []) ∷
-    (by 352 (finish 0) ∷ []) ∷
+    (take (by 352 (finish 0)) ∷ []) ∷
     (take (by 353 (claimed 0 (both (take (take (finish 0))) (no)))) ∷ []) ∷
     (take (take (by 354 (finish 0))) ∷ []) ∷
     (take (take (by 355 (claimed 0 (both (finish 0) (no))))) ∷ []) ∷

@@ -326,7 +326,7 @@ readings =
     (any (rule 146 ∷ []) ∷ []) ∷
     (any (mark 198 ∷ []) ∷ []) ∷
     (any (mark 199 ∷ []) ∷ []) ∷
-    (any (mark 200 ∷ []) ∷ []) ∷
+    (any (mark 180 ∷ []) ∷ []) ∷
     (in_state 0 (rule 113 ∷ []) ∷ in_state 1 (rule 19 ∷ []) ∷ in_state 2 (rule 19 ∷ mark 26 ∷ rule 269 ∷ []) ∷ []) ∷
     (any (rule 127 ∷ rule 124 ∷ rule 118 ∷ rule 116 ∷ rule 114 ∷ []) ∷ []) ∷
     (in_state 1 (rule 19 ∷ []) ∷ in_state 2 (rule 19 ∷ mark 26 ∷ rule 269 ∷ []) ∷ []) ∷
@@ -922,21 +922,21 @@ completions =
     completion_of (rule 146 ∷ []) ([]) ∷
     completion_of (mark 198 ∷ []) ([]) ∷
     completion_of (mark 199 ∷ []) ([]) ∷
-    completion_of (mark 200 ∷ []) ([]) ∷
+    completion_of (mark 180 ∷ []) ([]) ∷
     completion_of (rule 113 ∷ []) ([]) ∷
     completion_of (rule 127 ∷ rule 124 ∷ rule 118 ∷ rule 116 ∷ rule 114 ∷ []) ([]) ∷
     completion_of ([]) ([]) ∷
     completion_of (mark 198 ∷ rule 132 ∷ rule 127 ∷ rule 124 ∷ rule 118 ∷ rule 116 ∷ rule 114 ∷ []) (step 0 0 ∷ step 0 0 ∷ step 0 2 ∷ step 0 0 ∷ step 0 0 ∷ step 0 1 ∷ step 0 1 ∷ []) ∷
     completion_of (mark 199 ∷ rule 132 ∷ rule 127 ∷ rule 124 ∷ rule 118 ∷ rule 116 ∷ rule 114 ∷ []) (step 0 0 ∷ step 0 0 ∷ step 0 2 ∷ step 0 0 ∷ step 0 0 ∷ step 0 1 ∷ step 0 2 ∷ []) ∷
-    completion_of (mark 200 ∷ rule 132 ∷ rule 127 ∷ rule 124 ∷ rule 118 ∷ rule 116 ∷ rule 114 ∷ []) (step 0 0 ∷ step 0 0 ∷ step 0 2 ∷ step 0 0 ∷ step 0 0 ∷ step 0 1 ∷ step 0 3 ∷ []) ∷
+    completion_of (mark 180 ∷ rule 132 ∷ rule 127 ∷ rule 124 ∷ rule 118 ∷ rule 116 ∷ rule 114 ∷ []) (step 0 0 ∷ step 0 0 ∷ step 0 2 ∷ step 0 0 ∷ step 0 0 ∷ step 0 1 ∷ step 0 3 ∷ []) ∷
     completion_of (rule 132 ∷ rule 127 ∷ rule 124 ∷ rule 118 ∷ rule 116 ∷ rule 114 ∷ []) ([]) ∷
     completion_of (rule 23 ∷ rule 20 ∷ []) ([]) ∷
     completion_of (rule 158 ∷ []) ([]) ∷
     completion_of (rule 113 ∷ []) ([]) ∷
-    completion_of (mark 52 ∷ rule 43 ∷ word 48 ∷ mark 202 ∷ []) (step 0 1 ∷ step 0 0 ∷ []) ∷
-    completion_of (mark 198 ∷ rule 132 ∷ rule 127 ∷ rule 124 ∷ rule 118 ∷ rule 116 ∷ rule 114 ∷ mark 52 ∷ rule 43 ∷ word 48 ∷ mark 202 ∷ []) (step 0 1 ∷ step 0 0 ∷ step 0 0 ∷ step 0 0 ∷ step 0 2 ∷ step 0 0 ∷ step 0 0 ∷ step 0 1 ∷ step 0 1 ∷ []) ∷
-    completion_of (mark 33 ∷ rule 23 ∷ rule 20 ∷ mark 26 ∷ rule 47 ∷ rule 52 ∷ word 48 ∷ mark 201 ∷ []) (step 0 0 ∷ step 0 0 ∷ step 0 0 ∷ step 0 0 ∷ step 0 2 ∷ []) ∷
-    completion_of (mark 200 ∷ rule 132 ∷ rule 127 ∷ rule 124 ∷ rule 118 ∷ rule 116 ∷ rule 114 ∷ mark 52 ∷ rule 43 ∷ word 48 ∷ mark 202 ∷ []) (step 0 1 ∷ step 0 0 ∷ step 0 0 ∷ step 0 0 ∷ step 0 2 ∷ step 0 0 ∷ step 0 0 ∷ step 0 1 ∷ step 0 3 ∷ []) ∷
+    completion_of (mark 52 ∷ rule 43 ∷ word 48 ∷ mark 71 ∷ []) (step 0 1 ∷ step 0 0 ∷ []) ∷
+    completion_of (mark 198 ∷ rule 132 ∷ rule 127 ∷ rule 124 ∷ rule 118 ∷ rule 116 ∷ rule 114 ∷ mark 52 ∷ rule 43 ∷ word 48 ∷ mark 71 ∷ []) (step 0 1 ∷ step 0 0 ∷ step 0 0 ∷ step 0 0 ∷ step 0 2 ∷ step 0 0 ∷ step 0 0 ∷ step 0 1 ∷ step 0 1 ∷ []) ∷
+    completion_of (mark 33 ∷ rule 23 ∷ rule 20 ∷ mark 26 ∷ rule 47 ∷ rule 52 ∷ word 48 ∷ mark 76 ∷ []) (step 0 0 ∷ step 0 0 ∷ step 0 0 ∷ step 0 0 ∷ step 0 2 ∷ []) ∷
+    completion_of (mark 180 ∷ rule 132 ∷ rule 127 ∷ rule 124 ∷ rule 118 ∷ rule 116 ∷ rule 114 ∷ mark 52 ∷ rule 43 ∷ word 48 ∷ mark 71 ∷ []) (step 0 1 ∷ step 0 0 ∷ step 0 0 ∷ step 0 0 ∷ step 0 2 ∷ step 0 0 ∷ step 0 0 ∷ step 0 1 ∷ step 0 3 ∷ []) ∷
     []
 
 -- by production that refuses a word, which of the literal ones that is

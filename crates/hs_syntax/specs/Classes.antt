@@ -8,7 +8,7 @@ use Rattle.hs_lexer.specs.declared.token.TokenKind.TheVariants.{Word, Quoted, Nu
 use Rattle.hs_lexer.specs.Bytes.{is_digit}
 use Rattle.hs_lexer.specs.Content.{written, text_of}
 use Rattle.hs_syntax.specs.Names.{number_0, number_4000, above, fraction, digit_text, other_text, identifier}
-use Rattle.hs_syntax.specs.Words.{words, signs}
+use Rattle.hs_syntax.specs.Words.{keywords, signs}
 
 -- the class beside a word, without regard to case; the other one where the word isn't there
 abbrev pub lookup : List (List ℕ × ℕ) → List ℕ → ℕ → ℕ
@@ -17,7 +17,7 @@ lookup (entry ∷ entries) word other = if str_eq_ignore_ascii_case entry.0 word
 
 -- a word that is none of the grammar's is a name
 unfoldable pub word_class : List ℕ → ℕ
-word_class word = lookup words word identifier
+word_class word = lookup keywords word identifier
 
 -- a class that no rule takes
 abbrev pub nothing : ℕ

@@ -149,14 +149,14 @@ productions =
     to froms (rule from ∷ rule froms_more ∷ []) ∷
     to froms_more (word comma ∷ rule from ∷ rule froms_more ∷ []) ∷
     to froms_more ([]) ∷
-    to where_part (word WHERE ∷ rule e ∷ mark m.where_mark ∷ []) ∷
-    to where_part ([]) ∷
+    to where_part (word WHERE ∷ rule e ∷ mark m.written ∷ []) ∷
+    to where_part (mark m.unwritten ∷ []) ∷
     to group (word GROUP ∷ word BY ∷ rule e ∷ mark m.group ∷ rule group_more ∷ []) ∷
     to group ([]) ∷
     to group_more (word comma ∷ rule e ∷ mark m.group ∷ rule group_more ∷ []) ∷
     to group_more ([]) ∷
-    to having (word HAVING ∷ rule e ∷ mark m.having ∷ []) ∷
-    to having ([]) ∷
+    to having (word HAVING ∷ rule e ∷ mark m.written ∷ []) ∷
+    to having (mark m.unwritten ∷ []) ∷
     to es (rule e ∷ mark m.first ∷ rule es_more ∷ []) ∷
     to es_more (word comma ∷ rule e ∷ mark m.next ∷ rule es_more ∷ []) ∷
     to es_more ([]) ∷
@@ -227,12 +227,12 @@ productions =
     to pair (rule name ∷ word equal ∷ rule value ∷ []) ∷
     to value (rule e ∷ mark m.assign ∷ []) ∷
     to value (word DEFAULT ∷ mark m.assign_default ∷ []) ∷
-    to update_where (word WHERE ∷ rule e ∷ mark m.update_where ∷ []) ∷
-    to update_where ([]) ∷
+    to update_where (word WHERE ∷ rule e ∷ mark m.written ∷ []) ∷
+    to update_where (mark m.unwritten ∷ []) ∷
     -- delete = DELETE FROM name [ [ AS ] name ] [ WHERE e ]
     to delete (word DELETE ∷ word FROM ∷ rule name ∷ rule alias ∷ mark m.delete ∷ rule delete_where ∷ mark m.delete_statement ∷ []) ∷
-    to delete_where (word WHERE ∷ rule e ∷ mark m.delete_where ∷ []) ∷
-    to delete_where ([]) ∷
+    to delete_where (word WHERE ∷ rule e ∷ mark m.written ∷ []) ∷
+    to delete_where (mark m.unwritten ∷ []) ∷
     -- lock = LOCK TABLE name ( READ | WRITE ) { ',' name ( READ | WRITE ) }
     to lock (word LOCK ∷ word TABLE ∷ mark m.lock ∷ rule claim ∷ rule claims_more ∷ mark m.lock_statement ∷ []) ∷
     to claims_more (word comma ∷ rule claim ∷ rule claims_more ∷ []) ∷
@@ -433,8 +433,8 @@ productions =
     to qualified (mark m.column ∷ []) ∷
     to arms (word WHEN ∷ rule e ∷ word THEN ∷ rule e ∷ mark m.arm ∷ rule arms ∷ []) ∷
     to arms ([]) ∷
-    to else (word ELSE ∷ rule e ∷ mark m.else ∷ []) ∷
-    to else ([]) ∷
+    to else (word ELSE ∷ rule e ∷ mark m.written ∷ []) ∷
+    to else (mark m.unwritten ∷ []) ∷
     to for (word FOR ∷ rule e ∷ word right_parenthesis ∷ mark m.substring_for ∷ []) ∷
     to for (word right_parenthesis ∷ mark m.substring ∷ []) ∷
     to trim (word LEADING ∷ mark m.leading ∷ rule trim_side ∷ []) ∷

@@ -148,14 +148,14 @@ table = 47
 abbrev pub derived : ℕ
 derived = 48
 
-abbrev pub where_mark : ℕ
-where_mark = 49
+abbrev pub written : ℕ
+written = 49
 
 abbrev pub group : ℕ
 group = 50
 
-abbrev pub having : ℕ
-having = 51
+abbrev pub unwritten : ℕ
+unwritten = 51
 
 abbrev pub first : ℕ
 first = 52
@@ -214,8 +214,8 @@ update = 69
 abbrev pub update_statement : ℕ
 update_statement = 70
 
-abbrev pub update_where : ℕ
-update_where = 71
+abbrev pub in_list : ℕ
+in_list = 71
 
 abbrev pub assign : ℕ
 assign = 72
@@ -229,8 +229,8 @@ delete = 74
 abbrev pub delete_statement : ℕ
 delete_statement = 75
 
-abbrev pub delete_where : ℕ
-delete_where = 76
+abbrev pub in_query : ℕ
+in_query = 76
 
 abbrev pub lock : ℕ
 lock = 77
@@ -541,8 +541,8 @@ column = 178
 abbrev pub arm : ℕ
 arm = 179
 
-abbrev pub else : ℕ
-else = 180
+abbrev pub subquery : ℕ
+subquery = 180
 
 abbrev pub substring_for : ℕ
 substring_for = 181
@@ -600,12 +600,3 @@ bracket = 198
 
 abbrev pub body_subquery : ℕ
 body_subquery = 199
-
-abbrev pub subquery : ℕ
-subquery = 200
-
-abbrev pub in_query : ℕ
-in_query = 201
-
-abbrev pub in_list : ℕ
-in_list = 202

@@ -8,8 +8,8 @@ ghost use Rattle.hs_syntax.specs.Classes as spec;
 ghost use Rattle.hs_syntax.specs.Letters as letters;
 
 use crate::words::{
-    ABOVE, DIGIT_TEXT, FRACTION, IDENTIFIER, MIDDLE, NOTHING, OTHER_TEXT, SIGNS, SMALL, STARTS,
-    WORDS,
+    ABOVE, DIGIT_TEXT, FRACTION, IDENTIFIER, KEYWORDS, MIDDLE, NOTHING, OTHER_TEXT, SIGNS, SMALL,
+    STARTS,
 };
 use hs_lexer::{Token, TokenKind, between_quotes, content, written};
 use std::alloc::{AllocError, Global};
@@ -72,7 +72,7 @@ fn start(starts: &[u8], letter: usize) -> usize
 pub fn word_class(word: &[u8]) -> u8
     ensures { result ≡ spec.word_class word.now }
 {
-    lookup_by_letter(&WORDS, &STARTS, word, IDENTIFIER)
+    lookup_by_letter(&KEYWORDS, &STARTS, word, IDENTIFIER)
 }
 
 #[tactic(auto, unfolding(crate::specs::Classes::sign_class))]

@@ -14,7 +14,7 @@ pub const FRACTION: u8 = 42;
 pub const DIGIT_TEXT: u8 = 43;
 /// Any other text.
 pub const OTHER_TEXT: u8 = 44;
-/// A quoted name, or a word that is none of WORDS.
+/// A quoted name, or a word that is none of KEYWORDS.
 pub const IDENTIFIER: u8 = 45;
 
 /// The symbols and their classes.
@@ -39,7 +39,7 @@ pub const SIGNS: [(&[u8], u8); 17] = [
 ];
 
 /// The words of the grammar, in alphabetical order, and their classes.
-pub const WORDS: [(&[u8], u8); 141] = [
+pub const KEYWORDS: [(&[u8], u8); 141] = [
     (b"ABS", 88),
     (b"ACTION", 64),
     (b"ADD", 89),
@@ -189,7 +189,7 @@ pub const NAMES: [u8; 25] = [
     87,
 ];
 
-/// By letter, A being 1, the place in WORDS of the first word with it; and behind the last one the end.
+/// By letter, A being 1, the place in KEYWORDS of the first word with it; and behind the last one the end.
 pub const STARTS: [u8; 33] = [
     0, 0, 10, 16, 35, 46, 52, 58, 59, 61, 72, 73, 74, 82, 90, 95, 101, 102, 102, 109, 120, 128,
     133, 136, 140, 140, 141, 141, 141, 141, 141, 141, 141,

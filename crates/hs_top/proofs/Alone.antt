@@ -7,7 +7,8 @@ use Rattle.hs_host.specs.declared.source.Source as source
 use Rattle.hs_host.specs.declared.host.Host as host
 use Rattle.hs_host.specs.Files.{Five, IsOnly, of, with_}
 use Rattle.hs_host.specs.Used.{ReadsFiles, Moves, ChangesFile}
-use Rattle.hs_host.proofs.Used.{uses_on, told_on, only_on, still_only}
+use Rattle.hs_host.proofs.Used.{uses_on, told_on, only_on, still_only, moves_weaker}
+use Rattle.hs_log.specs.Log.{IsOpening}
 use Rattle.hs_host.specs.Moments.{Moment, History, Since, OneFile, IsStill, IsReading, disk_of}
 use Rattle.hs_host.proofs.Passing.{since_weaker, since_join, since_now}
 use Rattle.hs_top.specs.Crash.{IsLater}
@@ -54,6 +55,9 @@ alone_writing {a} {b} file is ab = since_weaker ab (λ m. alone_file a.now m fil
 
 pub alone_stepping : {a b : History} {gathered : List ℕ} {logged texts : List (List ℕ)} → Since (IsStep a.now gathered logged texts) a b → Since (IsLater a.now) a b
 alone_stepping {a} {b} {gathered} {logged} {texts} ab = since_weaker ab (λ m. alone_step a.now m gathered logged texts)
+
+pub alone_opens : {H : Type 0} {s : source.Ghosts H} {g : host.Ghosts H} {a b : H} → Moves s g Log (IsOpening (g.files a) (g.history a).now) a b → Moves s g Log (IsLater (g.history a).now) a b
+alone_opens {H} {s} {g} {a} {b} ab = moves_weaker ab (λ told m is. elim is [ inl still ↦ alone_still (g.history a).now m still | inr birth ↦ alone_one (g.history a).now m birth.log ])
 
 -- one behind the other
 later_on : (a b m : Moment) → IsLater a b → IsLater b m → IsLater a m

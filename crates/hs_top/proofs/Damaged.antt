@@ -1,10 +1,8 @@
--- That the number of a damage is that of the first damaged group.
+-- That the number of a damage is that of the first damaged text.
 use Rattle.std.proofs.Common.{◌≡◌, inl, inr, ℕ, suc, ◌+◌, Bool, true, false, cond, List, [], ◌∷◌, length, Option, None, Some, Result, Ok, Err, refl, sym, ap, subst, ◌∙◌, arith}
-use Rattle.std.specs.Prelude.{◌==◌, ◌&&◌}
-use Rattle.std.proofs.lemmas.Bool.{and_parts, and_from, eqb-true}
-use Rattle.hs_gate.specs.Groups.{Groups, groups_of, is_born, is_open, epoch_of}
+use Rattle.hs_log.specs.Log.{is_born, has_header, is_broken, texts_of}
 use Rattle.hs_top.specs.Damaged.{HasFirstEpoch, AreRedone, MakesNothing, IsFirstDamage}
-use Rattle.hs_top.specs.Opening.{Opened, nothing_logged, redone, replayed, unless_broken, opened_of}
+use Rattle.hs_top.specs.Opening.{Opened, nothing_logged, redone, replayed, unless_broken, given, opened_of}
 use Rattle.hs_top.proofs.Reopened.{redone_counts, same_Ok}
 
 abbrev goes_on : Option Opened → ℕ → List (List ℕ) → Result Opened ℕ
@@ -56,51 +54,51 @@ all_redone : (ts : List (List ℕ)) (o p : Opened) → replayed o ts ≡ Ok p �
 all_redone [] o p is = same_Ok o p is
 all_redone (t ∷ ts) o p is = all_on o t ts p (redone o t) refl is (λ next. all_redone ts next p)
 
--- what is wrong with groups has a number, which isn't 0
-in_replay : (groups : Groups) (n : ℕ) (r : Result Opened ℕ) → replayed nothing_logged groups.payloads ≡ r → unless_broken groups r ≡ failed n → (g : ℕ) × (n ≡ suc g) × IsFirstDamage groups g
-in_replay groups n (Err m) at is =
-    let s = stops groups.payloads nothing_logged m at in
+-- what is wrong with texts has a number, which isn't 0
+in_replay : (broken : Bool) (texts : List (List ℕ)) (n : ℕ) (r : Result Opened ℕ) → replayed nothing_logged texts ≡ r → unless_broken broken texts r ≡ failed n → (g : ℕ) × (n ≡ suc g) × IsFirstDamage texts broken g
+in_replay broken texts n (Err m) at is =
+    let s = stops texts nothing_logged m at in
     (length s.good, omega (arith, s.count, same_Err m n is), record { good = s.good; opened = s.at; count = refl; made = s.made; next = inl s.next })
-in_replay groups n (Ok o) at is = broken groups.is_broken refl is
+in_replay broken texts n (Ok o) at is = ends broken refl is
   where
-    broken : (b : Bool) → groups.is_broken ≡ b → cond b (failed (length groups.payloads + 1)) (Ok o) ≡ failed n → (g : ℕ) × (n ≡ suc g) × IsFirstDamage groups g
-    broken true stands e = (
-      length groups.payloads,
-      omega (arith, same_Err (length groups.payloads + 1) n e),
-      record { good = groups.payloads; opened = o; count = refl; made = all_redone groups.payloads nothing_logged o at; next = inr (refl, stands) },
+    ends : (b : Bool) → broken ≡ b → cond b (failed (length texts + 1)) (Ok o) ≡ failed n → (g : ℕ) × (n ≡ suc g) × IsFirstDamage texts broken g
+    ends true stands e = (
+      length texts,
+      omega (arith, same_Err (length texts + 1) n e),
+      record { good = texts; opened = o; count = refl; made = all_redone texts nothing_logged o at; next = inr (refl, stands) },
     )
-    broken false stands e = absurd (cc)
+    ends false stands e = absurd (cc)
 
 -- what a log gives, by its birth byte and its header
-abbrev gives : Bool → Bool → Groups → Result Opened ℕ
-gives born first groups = cond born (cond first (unless_broken groups (replayed nothing_logged groups.payloads)) (failed 0)) (Ok nothing_logged)
+abbrev gives : Bool → Bool → Bool → List (List ℕ) → Result Opened ℕ
+gives born first broken texts = cond born (cond first (given broken texts) (failed 0)) (Ok nothing_logged)
 
-first_damage : (b c : Bool) (groups : Groups) (g : ℕ) → gives b c groups ≡ failed (suc g) → IsFirstDamage groups g
-first_damage true true groups g is =
-    let found = in_replay groups (suc g) (replayed nothing_logged groups.payloads) refl is in
+first_damage : (b c broken : Bool) (texts : List (List ℕ)) (g : ℕ) → gives b c broken texts ≡ failed (suc g) → IsFirstDamage texts broken g
+first_damage true true broken texts g is =
+    let found = in_replay broken texts (suc g) (replayed nothing_logged texts) refl is in
     let same : found.0 ≡ g = omega (arith, found.1) in
-    subst (IsFirstDamage groups) same found.2
-first_damage true false groups g is = absurd (let e : 0 ≡ suc g = same_Err 0 (suc g) is in omega (arith, e))
-first_damage false c groups g is = absurd (cc)
+    subst (IsFirstDamage texts broken) same found.2
+first_damage true false broken texts g is = absurd (let e : 0 ≡ suc g = same_Err 0 (suc g) is in omega (arith, e))
+first_damage false c broken texts g is = absurd (cc)
 
-pub damage_first : (log : List ℕ) (g : ℕ) → opened_of log ≡ Err (suc g) → IsFirstDamage (groups_of log) g
-damage_first log g is = first_damage (is_born log) (is_open log && epoch_of log == 1) (groups_of log) g is
+pub damage_first : (log : List ℕ) (g : ℕ) → opened_of log ≡ Err (suc g) → IsFirstDamage (texts_of log) (is_broken log) g
+damage_first log g is = first_damage (is_born log) (has_header 1 log) (is_broken log) (texts_of log) g is
 
 -- 0 is the number of a header
-header_of : (log : List ℕ) (b c : Bool) → is_born log ≡ b → (is_open log && epoch_of log == 1) ≡ c → gives b c (groups_of log) ≡ failed 0 → (is_born log ≡ true) × (HasFirstEpoch log → ⊥)
+header_of : (log : List ℕ) (b c : Bool) → is_born log ≡ b → has_header 1 log ≡ c → gives b c (is_broken log) (texts_of log) ≡ failed 0 → (is_born log ≡ true) × (HasFirstEpoch log → ⊥)
 header_of log true true born first is =
-    let found = in_replay (groups_of log) 0 (replayed nothing_logged (groups_of log).payloads) refl is in absurd (omega (arith, found.1))
+    let found = in_replay (is_broken log) (texts_of log) 0 (replayed nothing_logged (texts_of log)) refl is in absurd (omega (arith, found.1))
 header_of log true false born first is =
-    (born, λ has. absurd (let e : false ≡ true = sym first ∙ and_from (is_open log) (epoch_of log == 1) has.0 (ap (λ (n : ℕ). n == 1) has.1) in cc))
+    (born, λ has. absurd (let e : false ≡ true = sym first ∙ has in cc))
 header_of log false c born first is = absurd (cc)
 
 pub damage_header : (log : List ℕ) → opened_of log ≡ Err 0 → (is_born log ≡ true) × (HasFirstEpoch log → ⊥)
-damage_header log is = header_of log (is_born log) (is_open log && epoch_of log == 1) refl refl is
+damage_header log is = header_of log (is_born log) (has_header 1 log) refl refl is
 
-no_header : (log : List ℕ) (c : Bool) → is_born log ≡ true → (is_open log && epoch_of log == 1) ≡ c → (HasFirstEpoch log → ⊥) → opened_of log ≡ Err 0
-no_header log true born first none = let parts = and_parts (is_open log) (epoch_of log == 1) first in absurd (none (parts.0, eqb-true (epoch_of log) 1 parts.1))
+no_header : (log : List ℕ) (c : Bool) → is_born log ≡ true → has_header 1 log ≡ c → (HasFirstEpoch log → ⊥) → opened_of log ≡ Err 0
+no_header log true born first none = absurd (none first)
 no_header log false born first none =
-    ap (λ (b : Bool). gives b (is_open log && epoch_of log == 1) (groups_of log)) born ∙ ap (λ (c : Bool). gives true c (groups_of log)) first
+    ap (λ (b : Bool). gives b (has_header 1 log) (is_broken log) (texts_of log)) born ∙ ap (λ (c : Bool). gives true c (is_broken log) (texts_of log)) first
 
 pub header_damage : (log : List ℕ) → is_born log ≡ true → (HasFirstEpoch log → ⊥) → opened_of log ≡ Err 0
-header_damage log born none = no_header log (is_open log && epoch_of log == 1) born refl none
+header_damage log born none = no_header log (has_header 1 log) born refl none

@@ -11,14 +11,9 @@ use Rattle.hs_host.specs.Moments.{Moment, History, Since, IsPrinted, IsReading, 
 use Rattle.hs_host.specs.Used.{Told, UsesDisk, UsesOutput}
 use Rattle.hs_host.proofs.Passing.{since_weaker, since_join, since_now}
 use Rattle.hs_host.proofs.Torn.{front_stays}
-use Rattle.hs_gate.specs.declared.gated.Gated.{Gated}
-use Rattle.hs_gate.specs.Crash.{IsAsBefore}
-use Rattle.hs_gate.specs.Gated.{IsAtRest, grown}
-use Rattle.hs_gate.proofs.Numbers.{length-spelled}
-use Rattle.hs_gate.specs.Groups.{groups_of, is_born, is_open, epoch_of}
-use Rattle.hs_gate.proofs.Torn.{as_before}
-use Rattle.hs_log.specs.Log.{IsLog, IsLogOf}
-use Rattle.hs_top.specs.declared.statement_log.StatementLog.{StatementLog}
+use Rattle.hs_log.specs.declared.log.Log.{Log as Kept}
+use Rattle.hs_log.proofs.Logs.{log_of, log_left, log_on, same_is}
+use Rattle.hs_log.specs.Log.{IsLogOf, IsLog, HasRoom, HasNoneOrAll, epoch_in}
 use Rattle.std.specs.Prelude.{◌==◌, ◌&&◌, not}
 use Rattle.std.proofs.lemmas.List.{append_cancel_left}
 use Rattle.hs_entries.specs.Parts.{lacks}
@@ -152,49 +147,23 @@ last_gathered before out old new closed commits is all = record {
 }
 
 -- handing over leaves the log as it is kept
-pub log_handed : {a b : History} {bytes : List ℕ} (old new : Five (List ℕ)) (gated : Gated) → Since (IsHandedOver a.now bytes) a b → new ≡ old → IsLog a old gated → IsLog b new gated
-log_handed {a} {b} {bytes} old new gated s same is = record {
-  file = is.file;
-  born = subst (λ (f : Five (List ℕ)). is_born f.log ≡ true) (sym same) is.born;
-  rest = subst (λ (f : Five (List ℕ)). IsAtRest f gated) (sym same) is.rest;
-  calm = subst (λ (f : Five (List ℕ)). KeepsPrefix (disk_of b.now gated.file) (gated.end + 1) (of f gated.file)) (sym same)
-      (subst (λ (d : Five Pending). KeepsPrefix (of d gated.file) (gated.end + 1) (of old gated.file)) (sym (handed_disks s)) is.calm);
-}
+log_handed : {a b : History} {bytes : List ℕ} (old new : Five (List ℕ)) (log : Kept) → Since (IsHandedOver a.now bytes) a b → new ≡ old → IsLog a old log → IsLog b new log
+log_handed {a} {b} {bytes} old new log s same is = log_on a b old new log (handed_disks s) same is
 
 -- and so the host stands for it
-pub stands_handed : {H : Type 0} {s : source.Ghosts H} {g : host.Ghosts H} {bytes : List ℕ} (log : StatementLog) (commits : ℕ) (a b : H) → g.standing b ≡ g.standing a → g.files b ≡ g.files a → (s.tells → Since (IsHandedOver (g.history a).now bytes) (g.history a) (g.history b))
+pub stands_handed : {H : Type 0} {s : source.Ghosts H} {g : host.Ghosts H} {bytes : List ℕ} (log : Kept) (commits : ℕ) (a b : H) → g.standing b ≡ g.standing a → g.files b ≡ g.files a → (s.tells → Since (IsHandedOver (g.history a).now bytes) (g.history a) (g.history b))
     → Stands s g log commits a → Stands s g log commits b
 stands_handed {H} {s} {g} {bytes} log commits a b standing files moments stands = record {
   opened = subst IsOpen (sym standing) stands.opened;
   epoch = stands.epoch;
   room = stands.room;
-  log = λ t. log_handed (g.files a) (g.files b) log.gated (moments t.tells) files (stands.log (record { tells = t.tells; honest = subst IsHonest standing t.honest }));
+  log = λ t. log_handed (g.files a) (g.files b) log (moments t.tells) files (stands.log (record { tells = t.tells; honest = subst IsHonest standing t.honest }));
 }
 
--- the log as it is kept
-pub kept_is : (files : Five (List ℕ)) (h : History) (gated : Gated) → IsLog h files gated → gated.epoch ≡ 1 → IsLogOf 1 (texts_in files) files.log
-kept_is files h gated is first =
-    let file : of files gated.file ≡ files.log = ap (of files) is.file in
-    record {
-      born = is.born;
-      groups = record {
-        opened = subst (λ (bytes : List ℕ). is_open bytes ≡ true) file is.rest.stands.front.opened;
-        epoch_is = sym (ap (λ (g : Gated). g.epoch) is.rest.stands.front.is ∙ ap epoch_of file) ∙ first;
-        groups = ap (λ (b : Bool). record { payloads = texts_in files; is_broken = b }) (subst (λ (bytes : List ℕ). (groups_of bytes).is_broken ≡ false) file is.rest.stands.whole);
-      };
-    }
-
--- and what a crash leaves of it
-pub kept_left : (files : Five (List ℕ)) (h : History) (gated : Gated) (left : List ℕ) → IsLog h files gated → gated.epoch ≡ 1 → Leaves (disk_of h.now Log) left → IsLogOf 1 (texts_in files) left
-kept_left files h gated left is first leaves =
-    let file : of files gated.file ≡ files.log = ap (of files) is.file in
-    let there : Leaves (disk_of h.now gated.file) left = subst (λ (k : FileKind). Leaves (disk_of h.now k) left) (sym is.file) leaves in
-    let same : IsAsBefore files.log left = subst (λ (bytes : List ℕ). IsAsBefore bytes left) file (as_before files gated left is.rest.stands (front_stays (disk_of h.now gated.file) (gated.end + 1) (of files gated.file) left is.calm there)) in
-    let kept = kept_is files h gated is first in
-    record {
-      born = same.header.birth ∙ kept.born;
-      groups = record { opened = same.header.gate ∙ kept.groups.opened; epoch_is = same.header.epoch ∙ kept.groups.epoch_is; groups = same.groups ∙ kept.groups.groups };
-    }
+-- what a crash leaves of the log as it is kept
+pub kept_left : (files : Five (List ℕ)) (h : History) (log : Kept) (left : List ℕ) → IsLog h files log → epoch_in log ≡ 1 → Leaves (disk_of h.now Log) left → IsLogOf 1 (texts_in files) left
+kept_left files h log left is first leaves =
+    subst (λ (n : ℕ). IsLogOf n (texts_in files) left) first (same_is (epoch_in log) (texts_in files) files.log left (log_of h files log is) (log_left h files log left is leaves))
 
 -- a prefix of what was gathered tells of no more
 told_behind : (before : List ℕ) (mid m : Moment) (gathered : List ℕ) (commits : ℕ) → IsGathered before mid.out gathered commits → IsHandedOver mid gathered m → AcknowledgesBehind before m.out commits
@@ -215,12 +184,12 @@ line_behind before mid m gathered commits all t none =
     let e : true ≡ false = sym (ap (lacks 10) same ∙ none.none) ∙ has_line_more all.written t.piece all.begun in
     cc
 
-module _ (files : Five (List ℕ)) (h : History) (gated : Gated) (is : IsLog h files gated) (first : gated.epoch ≡ 1) (least : ℕ) (before : List ℕ) (commits : ℕ) (enough : least ≤ length (texts_in files)) (counted : commits ≡ length (texts_in files)) where
+module _ (files : Five (List ℕ)) (h : History) (log : Kept) (is : IsLog h files log) (first : epoch_in log ≡ 1) (least : ℕ) (before : List ℕ) (commits : ℕ) (enough : least ≤ length (texts_in files)) (counted : commits ≡ length (texts_in files)) where
   -- while output is handed over
   pub held_telling : (gathered : List ℕ) (rest : List (List ℕ)) (m : Moment) → IsGathered before h.now.out gathered commits → IsHandedOver h.now gathered m → IsHeld least (texts_in files ++ rest) before m
   held_telling gathered rest m all t left leaves = record {
     texts = texts_in files;
-    is = kept_left files h gated left is first (subst (λ (d : Five Pending). Leaves (of d Log) left) t.disks leaves);
+    is = kept_left files h log left is first (subst (λ (d : Five Pending). Leaves (of d Log) left) t.disks leaves);
     enough = enough;
     rest = rest;
     prefix = refl;
@@ -263,12 +232,18 @@ module _ (files : Five (List ℕ)) (h : History) (gated : Gated) (is : IsLog h f
       held_telling gathered (texts ++ rest) m all (record { disks = t.disks ∙ told.1.disks; piece = t.piece; rest = t.rest; out = t.out ∙ ap (λ (l : List ℕ). l ++ t.piece) out; whole = t.whole })
   held_failed gathered lines texts rest mid m all out (inr (inr logging)) t = held_logged gathered texts rest mid m all logging t
 
+-- a step that logs nothing leaves what the disk has
+pub step_disks : (before mid : Moment) (gathered : List ℕ) (logged texts : List (List ℕ)) → texts ≡ [] → (mid ≡ before) ⊎ IsStep before gathered logged texts mid → mid.disks ≡ before.disks
+step_disks before mid gathered logged texts none (inl same) = ap (λ (m : Moment). m.disks) same
+step_disks before mid gathered logged texts none (inr (inl told)) = told.1.disks
+step_disks before mid gathered logged texts none (inr (inr logging)) = absurd (omega (arith, ap length (sym none ∙ logging.one)))
+
 -- while the first line is handed over
-pub held_first : (files : Five (List ℕ)) (h : History) (gated : Gated) → IsLog h files gated → gated.epoch ≡ 1 → (before : List ℕ) (opened : ℕ) (rest : List (List ℕ)) (m : Moment) → h.now.out ≡ before → IsHandedOver h.now (printed_line (OpenedAt opened)) m
+pub held_first : (files : Five (List ℕ)) (h : History) (log : Kept) → IsLog h files log → epoch_in log ≡ 1 → (before : List ℕ) (opened : ℕ) (rest : List (List ℕ)) (m : Moment) → h.now.out ≡ before → IsHandedOver h.now (printed_line (OpenedAt opened)) m
     → IsHeld (length (texts_in files)) (texts_in files ++ rest) before m
-held_first files h gated is first before opened rest m out t left leaves = record {
+held_first files h log is first before opened rest m out t left leaves = record {
   texts = texts_in files;
-  is = kept_left files h gated left is first (subst (λ (d : Five Pending). Leaves (of d Log) left) t.disks leaves);
+  is = kept_left files h log left is first (subst (λ (d : Five Pending). Leaves (of d Log) left) t.disks leaves);
   enough = omega arith;
   rest = rest;
   prefix = refl;
@@ -314,12 +289,12 @@ disk_alone {H} {s} {g} {a} {b} ab others = record {
 }
 
 -- one commit more is logged
-pub stands_more : {H : Type 0} {s : source.Ghosts H} {g : host.Ghosts H} (old new : StatementLog) (text : List ℕ) (n : ℕ) (a b : H) → new.gated ≡ grown old.gated (text ∷ []) → UsesDisk s g a b
-    → (Told s g a → IsLog (g.history b) (g.files b) new.gated) → Stands s g old n a → Stands s g new (n + 1) b
-stands_more {H} {s} {g} old new text n a b is uses log stands = record {
+pub stands_more : {H : Type 0} {s : source.Ghosts H} {g : host.Ghosts H} (old new : Kept) (n : ℕ) (a b : H) → epoch_in new ≡ epoch_in old → (HasRoom n old → HasRoom (n + 1) new) → UsesDisk s g a b
+    → (Told s g a → IsLog (g.history b) (g.files b) new) → Stands s g old n a → Stands s g new (n + 1) b
+stands_more {H} {s} {g} old new n a b epoch room uses log stands = record {
   opened = subst IsOpen (sym uses.standing) stands.opened;
-  epoch = ap (λ (x : Gated). x.epoch) is ∙ stands.epoch;
-  room = omega (arith, stands.room, ap (λ (x : Gated). x.end) is, length-spelled text []);
+  epoch = epoch ∙ stands.epoch;
+  room = room stands.room;
   log = λ t. log (record { tells = t.tells; honest = subst IsHonest uses.standing t.honest });
 }
 
@@ -332,6 +307,6 @@ pub handed_first : (now old gathered line rest : List ℕ) → gathered ≡ [] �
 handed_first now old gathered line rest none is = ap (λ (l : List ℕ). now ++ (l ++ rest)) none ∙ ap (λ (l : List ℕ). l ++ rest) is ∙ append_assoc old line rest
 
 -- when the log is open, and nothing is told yet
-pub held_opened : (files : Five (List ℕ)) (h : History) (gated : Gated) → IsLog h files gated → gated.epoch ≡ 1 → (before : List ℕ) (rest : List (List ℕ)) → h.now.out ≡ before
+pub held_opened : (files : Five (List ℕ)) (h : History) (log : Kept) → IsLog h files log → epoch_in log ≡ 1 → (before : List ℕ) (rest : List (List ℕ)) → h.now.out ≡ before
     → IsHeld (length (texts_in files)) (texts_in files ++ rest) before h.now
-held_opened files h gated is first before rest out = held_first files h gated is first before 0 rest h.now out (handed_nothing h.now (printed_line (OpenedAt 0)))
+held_opened files h log is first before rest out = held_first files h log is first before 0 rest h.now out (handed_nothing h.now (printed_line (OpenedAt 0)))

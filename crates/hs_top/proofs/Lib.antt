@@ -28,3 +28,5 @@ pub mod Taken
 pub mod Acknowledged
 pub mod Replies
 pub mod Turns
+pub mod Numbered
+pub mod Mounted

@@ -1,5 +1,5 @@
 -- Fronts of what is to be written.
-use Rattle.std.proofs.Common.{◌≡◌, ℕ, ◌≤◌, List, [], ◌∷◌, ◌++◌, length, refl, sym, ◌∙◌, ap, arith, append_assoc, append-nil, length-append}
+use Rattle.std.proofs.Common.{◌≡◌, ℕ, ◌≤◌, List, [], ◌∷◌, ◌++◌, length, refl, sym, ◌∙◌, ap, subst, arith, append_assoc, append-nil, length-append}
 use Rattle.hs_top.specs.Machine.{WritesPrefix}
 
 -- a prefix of a piece that stands first in what is left is a prefix of the whole
@@ -58,3 +58,18 @@ split_front {A} (x ∷ all) behind (f ∷ front) rest is long =
 pub front_so_far : (old mid new gathered piece more : List ℕ) → mid ≡ old → piece ≡ gathered → WritesPrefix mid new piece → WritesPrefix old new (gathered ++ more)
 front_so_far old mid new gathered piece more same is front =
     front_on old mid new piece more (gathered ++ more) (ap (λ (l : List ℕ). l ++ (piece ++ more)) same ∙ ap (λ (l : List ℕ). old ++ (l ++ more)) is) (omega (arith, ap length same)) front
+
+-- what is gathered may be handed over where it is the next of the whole
+pub front_gathered : (old written gathered rest whole : List ℕ) → written ++ (gathered ++ rest) ≡ old ++ whole → length old ≤ length written → WritesPrefix old (written ++ gathered) whole
+front_gathered old written gathered rest whole is grown = record { rest = rest; is = append_assoc written gathered rest ∙ is; grown = omega (arith, grown, length-append written gathered) }
+
+-- also where nothing is gathered any more, or nothing was since
+pub front_emptied : (old written gathered whole : List ℕ) → gathered ≡ [] → WritesPrefix old written whole → WritesPrefix old (written ++ gathered) whole
+front_emptied old written gathered whole none front = subst (λ (l : List ℕ). WritesPrefix old l whole) (sym (ap (λ (l : List ℕ). written ++ l) none ∙ append-nil written)) front
+
+pub front_unsaid : (old gathered same lines : List ℕ) → same ≡ gathered → WritesPrefix old (old ++ same) (gathered ++ lines)
+front_unsaid old gathered same lines is = front_gathered old old same lines (gathered ++ lines) (ap (λ (l : List ℕ). old ++ (l ++ lines)) is) (omega arith)
+
+-- and then a prefix of it is a prefix of the whole
+pub front_through : (old mid new gathered whole : List ℕ) → length old ≤ length mid → WritesPrefix old (mid ++ gathered) whole → WritesPrefix mid new gathered → WritesPrefix old new whole
+front_through old mid new gathered whole grown left front = front_on old mid new gathered left.rest whole (sym (append_assoc mid gathered left.rest) ∙ left.is) grown front

@@ -7,7 +7,8 @@ use Rattle.hs_values.specs.declared.value.Value.{Value}
 use Rattle.hs_entries.specs.declared.item.Item.{Item}
 use Rattle.hs_entries.specs.declared.item.Item.TheVariants.{Entry, Bad, TooLong, End}
 use Rattle.hs_entries.specs.Items.{items}
-use Rattle.hs_gate.specs.Groups.{Groups, groups_of, is_born, is_open, epoch_of}
+use Rattle.hs_log.specs.Log.{is_born, has_header, texts_of as texts_in_log, is_broken}
+use Rattle.hs_log.proofs.Logs.{log_parts}
 use Rattle.hs_top.specs.declared.commit_text.Commit.{Commit}
 use Rattle.hs_top.specs.declared.database.Database.{Database}
 use Rattle.hs_top.specs.declared.table.Table.{Table}
@@ -20,7 +21,7 @@ use Rattle.hs_top.specs.Statement.{◌>>=◌, statement_of}
 use Rattle.hs_top.specs.CommitText.{commit_text, commit_of, IsSession, IsChange}
 use Rattle.hs_top.specs.Database.{Outcome, executed, performed, created, inserted, selected, refused, committed, with_row, table_of, first_repeated}
 use Rattle.hs_top.specs.Machine.{State, Step, machine, step_of, entered, did, turn, steps, texts, texts_of, last_state}
-use Rattle.hs_top.specs.Opening.{Opened, nothing_logged, redone, replayed, if_made, unless_broken, opened_of, texts_at, texts_from, begun_with, opened_at, ended_with, IsWholeLog}
+use Rattle.hs_top.specs.Opening.{Opened, nothing_logged, redone, replayed, if_made, unless_broken, given, opened_of, texts_at, texts_from, begun_with, opened_at, ended_with, IsWholeLog}
 use Rattle.hs_top.specs.Sessions.{Admitted, number_from, number_in, made, admitted}
 use Rattle.hs_top.proofs.Numerals.{bind_some}
 use Rattle.hs_top.proofs.Committed.{commit_back, commit_lawful}
@@ -123,7 +124,7 @@ module _ (last : Option ℕ) (db : Database) (n : ℕ) (s : Statement) (out : Ou
 -- numbers of sessions are those of their places
 number_within : (ns : List (List ℕ)) (k : ℕ) (name : List ℕ) (m : ℕ) → number_from k name ns ≡ Some m → (k ≤ m) × (m < k + length ns)
 number_within [] k name m is = absurd (cc)
-number_within (n ∷ ns) k name m is = either (bytes_eq n name) (number_within ns (k + 1) name m) is
+number_within (n ∷ ns) k name m is = either (bytes_eq name n) (number_within ns (k + 1) name m) is
   where
     either : (b : Bool) → (number_from (k + 1) name ns ≡ Some m → (k + 1 ≤ m) × (m < k + 1 + length ns)) → cond b (Some k) (number_from (k + 1) name ns) ≡ Some m → (k ≤ m) × (m < k + length (n ∷ ns))
     either true rest e = let same = same_Some k m e in (omega (arith, same), omega (arith, same))
@@ -193,22 +194,22 @@ unfolding whole
 run_remade items s fit = after_turns_remade (length items) items s fit
 
 -- the texts of an old log give what it gives
-if_unbroken : (groups : Groups) (r : Result Opened ℕ) (p : Opened) → unless_broken groups r ≡ Ok p → r ≡ Ok p
-if_unbroken groups (Err n) p is = absurd (cc)
-if_unbroken groups (Ok o) p is = whole groups.is_broken is
+if_unbroken : (broken : Bool) (texts : List (List ℕ)) (r : Result Opened ℕ) (p : Opened) → unless_broken broken texts r ≡ Ok p → r ≡ Ok p
+if_unbroken broken texts (Err n) p is = absurd (cc)
+if_unbroken broken texts (Ok o) p is = whole broken is
   where
-    whole : (b : Bool) → cond b (failed (length groups.payloads + 1)) (Ok o) ≡ Ok p → (let r : Result Opened ℕ = Ok o in r) ≡ Ok p
+    whole : (b : Bool) → cond b (failed (length texts + 1)) (Ok o) ≡ Ok p → (let r : Result Opened ℕ = Ok o in r) ≡ Ok p
     whole true e = absurd (cc)
     whole false e = e
 
-old_log : (b c : Bool) (groups : Groups) (p : Opened) → cond b (cond c (unless_broken groups (replayed nothing_logged groups.payloads)) (failed 0)) (Ok nothing_logged) ≡ Ok p
-    → replayed nothing_logged (cond b groups.payloads []) ≡ Ok p
-old_log true true groups p is = if_unbroken groups _ p is
-old_log true false groups p is = absurd (cc)
-old_log false c groups p is = is
+old_log : (b c broken : Bool) (texts : List (List ℕ)) (p : Opened) → cond b (cond c (given broken texts) (failed 0)) (Ok nothing_logged) ≡ Ok p
+    → replayed nothing_logged (cond b texts []) ≡ Ok p
+old_log true true broken texts p is = if_unbroken broken texts _ p is
+old_log true false broken texts p is = absurd (cc)
+old_log false c broken texts p is = is
 
 pub old_gives : (old : List ℕ) (p : Opened) → opened_of old ≡ Ok p → replayed nothing_logged (texts_at old) ≡ Ok p
-old_gives old p is = old_log (is_born old) (is_open old && epoch_of old == 1) (groups_of old) p is
+old_gives old p is = old_log (is_born old) (has_header 1 old) (is_broken old) (texts_in_log old) p is
 
 -- the sessions of its commits are sessions
 one_session : (r : Option Opened) (n : ℕ) (ts : List (List ℕ)) (p : Opened) → ((next : Opened) → r ≡ Some next → IfSome next.last IsSession)
@@ -257,7 +258,7 @@ commits_of_texts (t ∷ ts) o p is = one_counted (redone o t) (o.database.commit
 
 -- and a whole log gives what its texts give
 pub whole_gives : (new : List ℕ) (ts : List (List ℕ)) (p : Opened) → IsWholeLog new ts → replayed nothing_logged ts ≡ Ok p → opened_of new ≡ Ok p
-whole_gives new ts p log is = grind (arith, log.born, log.opened, log.epoch, log.groups, is)
+whole_gives new ts p log is = let parts = log_parts 1 ts new log.log in grind (arith, parts.0, parts.1, parts.2, parts.3, is)
 
 pub reopened : (old new : List ℕ) (opened : Opened) (input : List ℕ) → opened_of old ≡ Ok opened → IsWholeLog new (texts_at old ++ texts_from opened input) → opened_of new ≡ Ok (ended_with opened input)
 reopened old new opened input is log =

@@ -4,8 +4,8 @@ use Rattle.std.proofs.Math.Seq.{take-append_seam}
 use Rattle.hs_entries.specs.declared.item.Item.{Item}
 use Rattle.hs_entries.specs.declared.item.Item.TheVariants.{Entry, Bad, TooLong, End}
 use Rattle.hs_entries.specs.Items.{items}
-use Rattle.hs_gate.specs.Groups.{Groups, groups_of, is_born}
-use Rattle.hs_log.specs.Log.{IsLogOf}
+use Rattle.hs_log.specs.Log.{IsLogOf, is_born, is_broken, texts_of as texts_in_log}
+use Rattle.hs_log.proofs.Logs.{log_parts}
 use Rattle.hs_host.specs.declared.file_kind.FileKind.TheVariants.{Log}
 use Rattle.hs_host.specs.Disk.{Pending, Leaves, settled}
 use Rattle.hs_host.specs.Files.{Five}
@@ -79,22 +79,22 @@ nothing_before [] rest is = refl
 nothing_before (t ∷ front) rest is = absurd (cc)
 
 -- the texts of a born log
-pub born_texts : (log : List ℕ) → is_born log ≡ true → texts_at log ≡ (groups_of log).payloads
-born_texts log born = ap (λ (b : Bool). cond b (groups_of log).payloads []) born
+pub born_texts : (log : List ℕ) → is_born log ≡ true → texts_at log ≡ texts_in_log log
+born_texts log born = ap (λ (b : Bool). cond b (texts_in_log log) []) born
 
 -- a log of the program gives what its texts give
-log_gives : (log : List ℕ) (texts : List (List ℕ)) (opened : Opened) → IsLogOf 1 texts log → replayed nothing_logged (groups_of log).payloads ≡ Ok opened → opened_of log ≡ Ok opened
+log_gives : (log : List ℕ) (texts : List (List ℕ)) (opened : Opened) → IsLogOf 1 texts log → replayed nothing_logged (texts_in_log log) ≡ Ok opened → opened_of log ≡ Ok opened
 log_gives log texts opened is replays =
-    let whole : (groups_of log).is_broken ≡ false = ap (λ (g : Groups). g.is_broken) is.groups.groups in
-    grind (arith, is.born, is.groups.opened, is.groups.epoch_is, whole, replays)
+    let parts = log_parts 1 texts log is in
+    grind (arith, parts.0, parts.1, parts.2, parts.3, replays)
 
 -- such a log survives: it has the first so many commits of the run
 pub survives : (old : List ℕ) (opened : Opened) (input before out log : List ℕ) → opened_of old ≡ Ok opened
     → Holds (length (texts_at old)) (texts_at old ++ texts_from opened input) before out log → Survives old opened input before out log
 survives old opened input before out log is held =
-    let payloads = (groups_of log).payloads in
+    let payloads = texts_in_log log in
     let all = texts_from opened input in
-    let same : payloads ≡ held.texts = ap (λ (g : Groups). g.payloads) held.is.groups.groups in
+    let same : payloads ≡ held.texts = (log_parts 1 held.texts log held.is).2 in
     let given = old_gives old opened is in
     let session = last_session (texts_at old) nothing_logged opened tt given in
     let parts = split_front held.texts held.rest (texts_at old) all held.prefix held.enough in

@@ -1,16 +1,19 @@
 -- What stops a part stops the whole.
 use Rattle.std.proofs.Common.{◌≡◌, ◌≤◌, ℕ, Result, Ok, Err, refl, sym, ◌∙◌, arith}
-use Rattle.std.specs.Prelude.{IfErr, OnOk}
+use Rattle.std.specs.Prelude.{IfErr, OnOk, OnErr, IsErrOf}
+use Rattle.std.specs.Result.{IsErrAnd}
 use Rattle.hs_host.specs.declared.source.Source as source
 use Rattle.hs_host.specs.declared.host.Host as host
 use Rattle.hs_host.specs.Host.{Rose}
+use Rattle.hs_log.specs.declared.log_fault.LogFault.{LogFault}
+use Rattle.hs_log.specs.declared.log_fault.LogFault.TheVariants as log
 use Rattle.hs_top.specs.declared.stop.Stop.{Stop}
 use Rattle.hs_top.specs.declared.stop.Stop.TheVariants.{Input, Output, Disk, NoMemory, Damaged, TooLong}
 use Rattle.hs_top.specs.declared.status.Status.{Status}
 use Rattle.hs_top.specs.declared.status.Status.TheVariants.{DiskFault, NoMemory as NoMemoryStatus}
 use Rattle.hs_top.specs.Opening.{Opened}
 use Rattle.hs_top.specs.Status.{status_of}
-use Rattle.hs_top.specs.Stop.{OpenStops, OutputStops, DiskStops, WorkStops, ReadStops, RunStops}
+use Rattle.hs_top.specs.Stop.{stop_of, OpenStops, OutputStops, DiskStops, WorkStops, ReadStops, RunStops}
 
 pub stops_for : {T : Type 0} (P Q : Stop → Type 0) (r : Result T Stop) → ((stop : Stop) → P stop → Q stop) → IfErr r P → IfErr r Q
 stops_for P Q (Ok x) f e = tt
@@ -23,6 +26,20 @@ any_ok (Err e) p = tt
 pub ok_weaker : {T E P Q : Type 0} (r : Result T E) → (P → Q) → OnOk r P → OnOk r Q
 ok_weaker (Ok x) f p = f p
 ok_weaker (Err e) f p = tt
+
+broken_by : (fault : LogFault) (number : ℕ) → stop_of fault ≡ Damaged number → fault ≡ log.Broken number
+broken_by log.Disk number is = absurd (cc)
+broken_by (log.Broken n) number is = cc
+broken_by log.NoMemory number is = absurd (cc)
+
+-- a run stops for damage where the log is broken
+pub damaged_from : {T : Type 0} (result : Result T Stop) (fault : LogFault) (number : ℕ) → IsErrAnd result (λ stop. stop ≡ stop_of fault) → IsErrOf result (Damaged number) → fault ≡ log.Broken number
+damaged_from (Ok x) fault number made is = absurd (cc)
+damaged_from (Err stop) fault number made is = let same : stop ≡ Damaged number = cc in broken_by fault number (sym made ∙ same)
+
+pub err_weaker : {T E P Q : Type 0} (r : Result T E) → (P → Q) → OnErr r P → OnErr r Q
+err_weaker (Ok x) f p = tt
+err_weaker (Err e) f p = f p
 
 rose_between : (a b c d : ℕ) → a ≤ b → c ≤ d → Rose b c → Rose a d
 rose_between a b c d first last rose = omega (arith, first, last, rose)
@@ -43,6 +60,14 @@ module _ {H : Type 0} (s : source.Ghosts H) (g : host.Ghosts H) where
   disk_work Output a b c d first last rose = absurd rose
   disk_work (Damaged group) a b c d first last rose = absurd rose
   disk_work TooLong a b c d first last rose = absurd rose
+
+  pub work_handed : (stop : Stop) (a b c : H) → g.output_faults b ≤ g.output_faults c → g.disk_faults c ≡ g.disk_faults b → WorkStops s g a b stop → WorkStops s g a c stop
+  work_handed Output a b c output disk rose = rose_between _ _ _ _ (omega arith) output rose
+  work_handed Disk a b c output disk rose = rose_between _ _ _ _ (omega arith) (omega (arith, disk)) rose
+  work_handed NoMemory a b c output disk rose = tt
+  work_handed Input a b c output disk rose = absurd rose
+  work_handed (Damaged group) a b c output disk rose = absurd rose
+  work_handed TooLong a b c output disk rose = absurd rose
 
   pub output_read : (stop : Stop) (a b c d : H) → g.output_faults a ≤ g.output_faults b → g.output_faults c ≤ g.output_faults d → OutputStops s g b c stop → ReadStops s g a d stop
   output_read Output a b c d first last rose = rose_between _ _ _ _ first last rose

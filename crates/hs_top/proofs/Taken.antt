@@ -1,5 +1,5 @@
 -- Items that are taken from those that are left.
-use Rattle.std.proofs.Common.{◌≡◌, ℕ, Bool, true, false, cond, List, [], ◌∷◌, ◌++◌, take, refl, sym, ap, ◌∙◌}
+use Rattle.std.proofs.Common.{◌≡◌, ◌<◌, ℕ, Bool, true, false, cond, List, [], ◌∷◌, ◌++◌, take, refl, sym, ap, ◌∙◌}
 use Rattle.hs_entries.specs.declared.item.Item.{Item}
 use Rattle.hs_entries.specs.declared.item.Item.TheVariants.{Entry, Bad, TooLong, End}
 use Rattle.hs_entries.specs.declared.place.Place.TheVariants.{Between}
@@ -7,7 +7,7 @@ use Rattle.hs_entries.specs.declared.reader.EntryReader.{EntryReader}
 use Rattle.hs_entries.specs.Place.{is_entry}
 use Rattle.hs_entries.specs.Items.{items_from, cut_items, no_items, items, whole_items}
 use Rattle.hs_entries.specs.Left.{TakesFirst, TakesWhole}
-use Rattle.hs_entries.specs.Reader.{ahead, has_ended, left, room, next_number, left_items, left_whole}
+use Rattle.hs_entries.specs.Reader.{ahead, has_ended, left, room, next_number, left_items, left_whole, Shrinks}
 use Rattle.hs_top.specs.Running.{is_end}
 
 pub taken : (item : Item) (before after : List Item) → is_end item ≡ false → TakesFirst before item after → before ≡ item ∷ after
@@ -34,6 +34,13 @@ ended (Entry n s t a) end = absurd (cc)
 ended (Bad n) end = absurd (cc)
 ended (TooLong n) end = absurd (cc)
 ended End end = refl
+
+-- an item that isn't the end uses bytes
+pub uses_bytes : (item : Item) (before now : ℕ) → is_end item ≡ false → Shrinks item before now → now < before
+uses_bytes (Entry n s t a) before now more shrinks = shrinks
+uses_bytes (Bad n) before now more shrinks = shrinks
+uses_bytes (TooLong n) before now more shrinks = shrinks
+uses_bytes End before now more shrinks = absurd (cc)
 
 -- where the input has ended and nothing is at hand no items are left
 pub none_left : (r : EntryReader) (rest : List ℕ) → has_ended r ≡ true → ahead r ≡ [] → left_items r rest ≡ []

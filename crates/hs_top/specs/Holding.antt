@@ -7,6 +7,7 @@ use Rattle.hs_host.specs.declared.file_kind.FileKind.TheVariants.{Log}
 use Rattle.hs_log.specs.Log.{IsLogOf, HasNoneOrAll}
 use Rattle.hs_entries.specs.Parts.{lacks}
 use Rattle.hs_top.specs.Crash.{AcknowledgesBehind, HasNoLine}
+use Rattle.hs_top.specs.Machine.{WritesPrefix}
 use Rattle.hs_top.specs.Running.{texts_in}
 use Rattle.hs_machine.specs.Acknowledged.{AcknowledgesLines}
 
@@ -55,3 +56,9 @@ pub record IsAcknowledging (least : ℕ) (before : List ℕ) (files : Five (List
   pub enough : least ≤ length (texts_in files)
   pub counted : commits ≡ length (texts_in files)
   pub gathered : IsGathered before out output commits
+
+-- What is gathered may still be handed over: since then nothing was gathered or handed over, or what was is a front of these lines
+-- and nothing was to be logged.
+abbrev pub LeavesFront : List ℕ → List ℕ → List ℕ → List ℕ → List ℕ → List (List ℕ) → Type 0
+LeavesFront old new gathered output lines texts =
+    ((output ≡ gathered) × (new ≡ old)) ⊎ ((texts ≡ []) × WritesPrefix old (new ++ output) (gathered ++ lines))

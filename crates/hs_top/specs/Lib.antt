@@ -7,6 +7,7 @@ pub mod Database
 pub mod Entries
 pub mod Holding
 pub mod Machine
+pub mod Mounting
 pub mod Opening
 pub mod Running
 pub mod Sessions

@@ -1,11 +1,12 @@
 -- What a run begins with: what its log gives.
-use Rattle.std.specs.Prelude.{◌≡◌, ℕ, ◌+◌, true, ◌==◌, ◌&&◌, if◌then◌else◌, List, [], ◌∷◌, length, Option, None, Some, Result, Ok, Err}
+use Rattle.std.specs.Prelude.{◌≡◌, ℕ, ◌+◌, Bool, true, if◌then◌else◌, List, [], ◌∷◌, length, Option, None, Some, Result, Ok, Err}
 use Rattle.hs_entries.specs.Items.{items}
-use Rattle.hs_gate.specs.Groups.{Groups, groups_of, is_born, is_open, epoch_of, whole, end_of}
+use Rattle.hs_log.specs.Log.{is_born, has_header, texts_of as texts_in_log, is_broken, last_in, IsWholeLog as IsWhole}
 use Rattle.hs_top.specs.declared.damage.Damage.{Damage}
 use Rattle.hs_top.specs.declared.damage.Damage.TheVariants.{Foreign, Log}
 use Rattle.hs_top.specs.declared.database.Database.{Database}
 use Rattle.hs_top.specs.declared.opening.Opening.{Opening}
+use Rattle.hs_top.specs.declared.opening.Replay.{Replay}
 use Rattle.hs_top.specs.CommitText.{commit_of}
 use Rattle.hs_top.specs.Database.{new_database, executed, Outcome}
 use Rattle.hs_machine.specs.Replies.{is_commit}
@@ -38,29 +39,36 @@ replayed opened (text ∷ texts) = elim (redone opened text) [
   | None ↦ Err (opened.database.commits + 1)
 ]
 
--- a broken group behind them is one that makes nothing
-abbrev pub unless_broken : Groups → Result Opened ℕ → Result Opened ℕ
-unless_broken groups (Err number) = Err number
-unless_broken groups (Ok opened) = if groups.is_broken then Err (length groups.payloads + 1) else Ok opened
+-- one behind these texts that isn't whole is one that makes nothing
+abbrev pub unless_broken : Bool → List (List ℕ) → Result Opened ℕ → Result Opened ℕ
+unless_broken broken texts (Err number) = Err number
+unless_broken broken texts (Ok opened) = if broken then Err (length texts + 1) else Ok opened
+
+-- what these texts give, behind which stands one that isn't whole or none
+abbrev pub given : Bool → List (List ℕ) → Result Opened ℕ
+given broken texts = unless_broken broken texts (replayed nothing_logged texts)
 
 -- What a log gives: nothing where it isn't born, and else its commits. An error is the number of the first
--- group that is broken or makes nothing, and 0 where a born log isn't open with epoch 1.
+-- text that isn't whole or makes nothing, and 0 where a born log isn't open with epoch 1.
 abbrev pub opened_of : List ℕ → Result Opened ℕ
 opened_of log =
     if is_born log then
-    if is_open log && epoch_of log == 1 then unless_broken (groups_of log) (replayed nothing_logged (groups_of log).payloads) else Err 0
+    if has_header 1 log then given (is_broken log) (texts_in_log log) else Err 0
     else Ok nothing_logged
 
 -- the texts of its commits
 abbrev pub texts_at : List ℕ → List (List ℕ)
-texts_at log = if is_born log then (groups_of log).payloads else []
+texts_at log = if is_born log then texts_in_log log else []
 
 abbrev pub begun_with : Opened → State
 begun_with opened = begun opened.last opened.database
 
 -- what the code begins with
 abbrev pub opened_by : Opening → Opened
-opened_by o = record { last = o.log.last; database = o.database }
+opened_by o = record { last = last_in o.log; database = o.database }
+
+abbrev pub state_by : Replay → Opened
+state_by r = record { last = r.last; database = r.database }
 
 -- the damage is that of the log
 abbrev pub IsDamageOf : Result Opened ℕ → Damage → Type 0
@@ -84,11 +92,6 @@ opened_at s = record { last = s.last; database = s.database }
 abbrev pub ended_with : Opened → List ℕ → Opened
 ended_with opened input = opened_at (last_state (machine (items 1 input) (begun_with opened)))
 
--- a log that is born and open with epoch 1, whose groups are these texts, and behind whose groups nothing
--- stands but one gate that isn't open
-pub record IsWholeLog (bytes : List ℕ) (texts : List (List ℕ)) : Type 0 where
-  pub born : is_born bytes ≡ true
-  pub opened : is_open bytes ≡ true
-  pub epoch : epoch_of bytes ≡ 1
-  pub groups : groups_of bytes ≡ whole texts
-  pub last : length bytes ≡ end_of texts + 1
+-- a log that is born and open with epoch 1, which has these texts, and behind them nothing but one byte that isn't 1
+abbrev pub IsWholeLog : List ℕ → List (List ℕ) → Type 0
+IsWholeLog bytes texts = IsWhole 1 texts bytes

@@ -9,10 +9,9 @@ use Rattle.hs_entries.specs.declared.item.Item.{Item}
 use Rattle.hs_entries.specs.declared.item.Item.TheVariants as item
 use Rattle.hs_entries.specs.Left.{RunsOut, KeepsRoom}
 use Rattle.hs_entries.specs.Reader.{AgreesWith, ahead, has_ended, kept as fault_kept, left, left_items, left_whole, room}
-use Rattle.hs_gate.specs.Groups.{groups_of}
-use Rattle.hs_log.specs.Log.{IsLog, HasRoom}
+use Rattle.hs_log.specs.declared.log.Log.{Log as Kept}
+use Rattle.hs_log.specs.Log.{IsLog, HasRoom, epoch_in, last_in, texts_of as texts_in_log}
 use Rattle.hs_top.specs.declared.running.Running.{Running}
-use Rattle.hs_top.specs.declared.statement_log.StatementLog.{StatementLog}
 use Rattle.hs_top.specs.declared.status.Status.{Status}
 use Rattle.hs_top.specs.declared.status.Status.TheVariants.{Done, Usage, InputFault, OutputFault, DiskFault, NoMemory, Damaged, InputTooLong}
 use Rattle.hs_top.specs.declared.work.Work.{Work}
@@ -20,19 +19,19 @@ use Rattle.hs_top.specs.Machine.{State, Position, machine, rest_of, lines_of, te
 
 -- the texts of the commits in a log
 abbrev pub texts_in : Five (List ℕ) → List (List ℕ)
-texts_in files = (groups_of files.log).payloads
+texts_in files = texts_in_log files.log
 
 -- of five files only the log may have changed
 abbrev pub OnlyLog : Five (List ℕ) → Five (List ℕ) → Type 0
 OnlyLog old new = new ≡ with_ old Log new.log
 
 -- A host and a log of so many commits, which the program writes on: the host's files are open, the log has the first
--- epoch, each commit has a group in it, and the host has it as it is kept here, on the disk too.
-pub record Stands {H : Type 0} (s : source.Ghosts H) (g : host.Ghosts H) (kept : StatementLog) (commits : ℕ) (h : H) : Type 0 where
+-- epoch, each commit has a text in it, and the host has it as it is kept here, on the disk too.
+pub record Stands {H : Type 0} (s : source.Ghosts H) (g : host.Ghosts H) (kept : Kept) (commits : ℕ) (h : H) : Type 0 where
   pub opened : IsOpen (g.standing h)
-  pub epoch : kept.gated.epoch ≡ 1
-  pub room : HasRoom commits kept.gated
-  pub log : Told s g h → IsLog (g.history h) (g.files h) kept.gated
+  pub epoch : epoch_in kept ≡ 1
+  pub room : HasRoom commits kept
+  pub log : Told s g h → IsLog (g.history h) (g.files h) kept
 
 -- Output and files were used: the input is as before, no count of faults fell, and of the files only the log was changed.
 pub record UsesWork {H : Type 0} (s : source.Ghosts H) (g : host.Ghosts H) (old new : H) : Type 0 where
@@ -52,7 +51,7 @@ pub record UsesStreams {H : Type 0} (s : source.Ghosts H) (g : host.Ghosts H) (o
   pub output_later : g.output_faults old ≤ g.output_faults new
 
 abbrev pub state_of : Work → State
-state_of w = record { sessions = w.sessions; last = w.log.last; database = w.database }
+state_of w = record { sessions = w.sessions; last = last_in w.log; database = w.database }
 
 -- the machine with all items that are left, the host having so much left
 abbrev pub machine_of : Running → List ℕ → Position

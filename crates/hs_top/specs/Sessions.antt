@@ -5,7 +5,7 @@ use Rattle.std.specs.Str.{bytes_eq}
 -- the number of a name among others, which are counted from a number on
 abbrev pub number_from : ℕ → List ℕ → List (List ℕ) → Option ℕ
 number_from number name [] = None
-number_from number name (n ∷ ns) = if bytes_eq n name then Some number else number_from (number + 1) name ns
+number_from number name (n ∷ ns) = if bytes_eq name n then Some number else number_from (number + 1) name ns
 
 -- the number of a session, counted from 1 in the order of the sessions' first entries
 abbrev pub number_in : List ℕ → List (List ℕ) → Option ℕ

@@ -2,16 +2,16 @@
 use Rattle.hs_host.specs.declared.source.Source as source
 use Rattle.hs_host.specs.declared.host.Host as host
 use Rattle.hs_host.specs.Host.{Rose}
-use Rattle.hs_gate.specs.declared.gate_fault.GateFault.{GateFault}
-use Rattle.hs_gate.specs.declared.gate_fault.GateFault.TheVariants as gate
+use Rattle.hs_log.specs.declared.log_fault.LogFault.{LogFault}
+use Rattle.hs_log.specs.declared.log_fault.LogFault.TheVariants as log
 use Rattle.hs_top.specs.declared.stop.Stop.{Stop}
 use Rattle.hs_top.specs.declared.stop.Stop.TheVariants.{Input, Output, Disk, NoMemory, Damaged, TooLong}
 
--- what a fault of the log's file is for the run
-abbrev pub stop_of : GateFault → Stop
-stop_of gate.Disk = Disk
-stop_of (gate.Broken group) = Damaged group
-stop_of gate.NoMemory = NoMemory
+-- what a fault of the log is for the run
+abbrev pub stop_of : LogFault → Stop
+stop_of log.Disk = Disk
+stop_of (log.Broken group) = Damaged group
+stop_of log.NoMemory = NoMemory
 
 -- Want of memory may stop each. A fault does only where the count of its device rose. What hands over output stops for a
 -- fault of that alone.

@@ -1,7 +1,8 @@
 // Answers one item.
-ghost use Rattle.std.specs.Prelude.{◌≡◌, ◌⊎◌, ℕ, List, [], ◌++◌, Some, OnOk, OnErr, IfErr, IsErrOf, map};
+ghost use Rattle.std.specs.Prelude.{◌≡◌, ◌⊎◌, ℕ, List, [], ◌++◌, Some, OnOk, OnErr, IfErr, map};
 ghost use Rattle.hs_host.specs.Moments.{Since};
 ghost use Rattle.hs_host.specs.Used.{Told, Moves, UsesOutput};
+ghost use Rattle.hs_log.specs.Log.{last_in};
 ghost use Rattle.hs_machine.specs.Lines.{printed};
 ghost use Rattle.hs_machine.specs.Replies.{rows_lines, reply_lines};
 ghost use Rattle.hs_top.specs.declared.statement.Statement.{Statement};
@@ -10,7 +11,7 @@ ghost use Rattle.hs_top.specs.Answers.{answer_lines};
 ghost use Rattle.hs_top.specs.CommitText.{IsChange};
 ghost use Rattle.hs_top.specs.Crash.{IsLater};
 ghost use Rattle.hs_top.specs.Database.{performed, executed};
-ghost use Rattle.hs_top.specs.Holding.{IsHandedOver, IsHeld, IsLogging, IsStep, IsAcknowledging};
+ghost use Rattle.hs_top.specs.Holding.{IsHandedOver, IsHeld, IsLogging, IsStep, IsAcknowledging, LeavesFront};
 ghost use Rattle.hs_top.specs.Machine.{WritesPrefix, step_of, logged, last_after, if_commit, commits_after};
 ghost use Rattle.hs_top.specs.Running.{Stands, UsesWork, state_of, texts_in};
 ghost use Rattle.hs_top.specs.Stop.{OutputStops, DiskStops, WorkStops};
@@ -20,12 +21,12 @@ use crate::database::{Database, sorted};
 use crate::flush::{flush, flush_when_large};
 use crate::output::Output;
 use crate::statement::{Statement, read_statement};
-use crate::statement_log::StatementLog;
 use crate::stop::Stop;
 use crate::table::Table;
 use crate::work::Work;
 use hs_entries::Item;
 use hs_host::{FileKind, Host};
+use hs_log::Log;
 use hs_machine::{Refusal, Reply};
 use hs_values::{Bytes, Chars, Name, Row};
 use std::alloc::Global;
@@ -53,11 +54,10 @@ pub fn answer<H: Host>(
 {
     match perform(alloc, item, work, output, host) {
         Ok(()) => flush_when_large(output, host),
-        Err(Stop::Disk) => {
+        Err(stop) => {
             hand_over(output, host);
-            Err(Stop::Disk)
+            Err(stop)
         }
-        Err(stop) => Err(stop),
     }
 }
 
@@ -86,7 +86,7 @@ fn perform<H: Host>(
     ensures texts { Told H.Source H.Host.own host.old → OnOk result (texts_in (H.files host.new) ≡ texts_in (H.files host.old) ++ (step_of item (state_of work.old)).texts) }
     ensures done { H.tells → OnOk result (H.written host.new ++ output.new ≡ H.written host.old ++ (output.old ++ printed (step_of item (state_of work.old)).lines)) }
     ensures front { H.tells → WritesPrefix (H.written host.old) (H.written host.new) (output.old ++ printed (step_of item (state_of work.old)).lines) }
-    ensures unsaid { IsErrOf result Stop.Disk → (output.new ≡ output.old) × (H.written host.new ≡ H.written host.old) }
+    ensures left { H.tells → OnErr result (LeavesFront (H.written host.old) (H.written host.new) output.old output.new (printed ((step_of item (state_of work.old)).lines)) ((step_of item (state_of work.old)).texts)) }
     ensures moments { Told H.Source H.Host.own host.old → Since (IsStep (H.history host.old).now (output.old ++ printed (step_of item (state_of work.old)).lines) (texts_in (H.files host.old)) (step_of item (state_of work.old)).texts) (H.history host.old) (H.history host.new) }
     ensures uses { UsesWork H.Source H.Host.own host.old host.new }
     ensures stops { IfErr result (WorkStops H.Source H.Host.own host.old host.new) }
@@ -127,7 +127,7 @@ fn enter<H: Host>(
     ensures texts { Told H.Source H.Host.own host.old → OnOk result (texts_in (H.files host.new) ≡ texts_in (H.files host.old) ++ (step_of (Item.Entry number name.now text.now 0) (state_of work.old)).texts) }
     ensures done { H.tells → OnOk result (H.written host.new ++ output.new ≡ H.written host.old ++ (output.old ++ printed (step_of (Item.Entry number name.now text.now 0) (state_of work.old)).lines)) }
     ensures front { H.tells → WritesPrefix (H.written host.old) (H.written host.new) (output.old ++ printed (step_of (Item.Entry number name.now text.now 0) (state_of work.old)).lines) }
-    ensures unsaid { IsErrOf result Stop.Disk → (output.new ≡ output.old) × (H.written host.new ≡ H.written host.old) }
+    ensures left { H.tells → OnErr result (LeavesFront (H.written host.old) (H.written host.new) output.old output.new (printed ((step_of (Item.Entry number name.now text.now 0) (state_of work.old)).lines)) ((step_of (Item.Entry number name.now text.now 0) (state_of work.old)).texts)) }
     ensures moments { Told H.Source H.Host.own host.old → Since (IsStep (H.history host.old).now (output.old ++ printed (step_of (Item.Entry number name.now text.now 0) (state_of work.old)).lines) (texts_in (H.files host.old)) (step_of (Item.Entry number name.now text.now 0) (state_of work.old)).texts) (H.history host.old) (H.history host.new) }
     ensures uses { UsesWork H.Source H.Host.own host.old host.new }
     ensures stops { IfErr result (WorkStops H.Source H.Host.own host.old host.new) }
@@ -160,20 +160,20 @@ fn execute<H: Host>(
     session: u32,
     statement: Option<Statement>,
     database: &mut Database,
-    log: &mut StatementLog,
+    log: &mut Log,
     text: &mut Bytes,
     output: &mut Output,
     host: &mut H,
 ) -> Result<(), Stop>
     requires stands { Stands H.Source H.Host.own log.old database.old.commits host.old }
     ensures database { OnOk result (database.new ≡ (performed database.old statement).database) }
-    ensures last { OnOk result (log.new.last ≡ last_after log.old.last session (performed database.old statement).reply) }
+    ensures last { OnOk result (last_in log.new ≡ last_after (last_in log.old) session (performed database.old statement).reply) }
     ensures stands { OnOk result (Stands H.Source H.Host.own log.new database.new.commits host.new) }
-    ensures texts { Told H.Source H.Host.own host.old → OnOk result (texts_in (H.files host.new) ≡ texts_in (H.files host.old) ++ logged log.old.last session statement (performed database.old statement).reply) }
+    ensures texts { Told H.Source H.Host.own host.old → OnOk result (texts_in (H.files host.new) ≡ texts_in (H.files host.old) ++ logged (last_in log.old) session statement (performed database.old statement).reply) }
     ensures done { H.tells → OnOk result (H.written host.new ++ output.new ≡ H.written host.old ++ (output.old ++ printed (reply_lines number name.now (performed database.old statement).reply))) }
     ensures front { H.tells → WritesPrefix (H.written host.old) (H.written host.new) (output.old ++ printed (reply_lines number name.now (performed database.old statement).reply)) }
-    ensures unsaid { IsErrOf result Stop.Disk → (output.new ≡ output.old) × (H.written host.new ≡ H.written host.old) }
-    ensures moments { Told H.Source H.Host.own host.old → Since (IsStep (H.history host.old).now (output.old ++ printed (reply_lines number name.now (performed database.old statement).reply)) (texts_in (H.files host.old)) (logged log.old.last session statement (performed database.old statement).reply)) (H.history host.old) (H.history host.new) }
+    ensures left { H.tells → OnErr result (LeavesFront (H.written host.old) (H.written host.new) output.old output.new (printed (reply_lines number name.now (performed database.old statement).reply)) (logged (last_in log.old) session statement (performed database.old statement).reply)) }
+    ensures moments { Told H.Source H.Host.own host.old → Since (IsStep (H.history host.old).now (output.old ++ printed (reply_lines number name.now (performed database.old statement).reply)) (texts_in (H.files host.old)) (logged (last_in log.old) session statement (performed database.old statement).reply)) (H.history host.old) (H.history host.new) }
     ensures uses { UsesWork H.Source H.Host.own host.old host.new }
     ensures stops { IfErr result (WorkStops H.Source H.Host.own host.old host.new) }
 {
@@ -209,7 +209,7 @@ fn change<H: Host>(
     session: u32,
     statement: Statement,
     database: &mut Database,
-    log: &mut StatementLog,
+    log: &mut Log,
     text: &mut Bytes,
     output: &mut Output,
     host: &mut H,
@@ -217,17 +217,17 @@ fn change<H: Host>(
     requires change { IsChange statement }
     requires stands { Stands H.Source H.Host.own log.old database.old.commits host.old }
     ensures database { OnOk result (database.new ≡ (executed database.old statement).database) }
-    ensures last { OnOk result (log.new.last ≡ last_after log.old.last session (executed database.old statement).reply) }
+    ensures last { OnOk result (last_in log.new ≡ last_after (last_in log.old) session (executed database.old statement).reply) }
     ensures stands { OnOk result (Stands H.Source H.Host.own log.new database.new.commits host.new) }
-    ensures texts { Told H.Source H.Host.own host.old → OnOk result (texts_in (H.files host.new) ≡ texts_in (H.files host.old) ++ logged log.old.last session (Some statement) (executed database.old statement).reply) }
+    ensures texts { Told H.Source H.Host.own host.old → OnOk result (texts_in (H.files host.new) ≡ texts_in (H.files host.old) ++ logged (last_in log.old) session (Some statement) (executed database.old statement).reply) }
     ensures lines { OnOk result (output.new ≡ output.old ++ printed (reply_lines number name.now (executed database.old statement).reply)) }
-    ensures unsaid { IsErrOf result Stop.Disk → output.new ≡ output.old }
-    ensures moves { Moves H.Source H.Host.own FileKind.Log (IsLogging (H.history host.old).now (texts_in (H.files host.old)) (logged log.old.last session (Some statement) (executed database.old statement).reply)) host.old host.new }
+    ensures unsaid { OnErr result (output.new ≡ output.old) }
+    ensures moves { Moves H.Source H.Host.own FileKind.Log (IsLogging (H.history host.old).now (texts_in (H.files host.old)) (logged (last_in log.old) session (Some statement) (executed database.old statement).reply)) host.old host.new }
     ensures stops { IfErr result (DiskStops H.Source H.Host.own host.old host.new) }
 {
-    write_commit(alloc, text, log.last, session, &statement)?;
-    let end = log.end();
-    prove!(database.commits < end);
+    write_commit(alloc, text, log.last(), session, &statement)?;
+    let size = log.size();
+    prove!(database.commits < size);
     let reply = database.change(alloc, statement)?;
     let mark = output.len();
     output.push_reply(number, name, &reply)?;
@@ -243,11 +243,11 @@ fn log_commit<H: Host>(
     reply: &Reply,
     session: u32,
     text: &Bytes,
-    log: &mut StatementLog,
+    log: &mut Log,
     host: &mut H,
 ) -> Result<(), Stop>
     requires stands { (n : ℕ) × Stands H.Source H.Host.own log.old n host.old }
-    ensures last { OnOk result (log.new.last ≡ last_after log.old.last session reply.now) }
+    ensures last { OnOk result (last_in log.new ≡ last_after (last_in log.old) session reply.now) }
     ensures stands { (n : ℕ) → Stands H.Source H.Host.own log.old n host.old → OnOk result (Stands H.Source H.Host.own log.new (commits_after n reply.now) host.new) }
     ensures texts { Told H.Source H.Host.own host.old → OnOk result (texts_in (H.files host.new) ≡ texts_in (H.files host.old) ++ if_commit reply.now text.now) }
     ensures moves { Moves H.Source H.Host.own FileKind.Log (IsLogging (H.history host.old).now (texts_in (H.files host.old)) (if_commit reply.now text.now)) host.old host.new }
@@ -261,7 +261,7 @@ fn log_commit<H: Host>(
 }
 
 // Gathers the answer of a query.
-#[tactic(auto, using(crate::proofs::Prefixes::nothing_yet, hs_host::proofs::Passing::since_none))]
+#[tactic(auto, using(crate::proofs::Prefixes::nothing_yet, crate::proofs::Prefixes::front_unsaid, hs_host::proofs::Passing::since_none))]
 fn select<H: Host>(
     alloc: Global,
     number: u64,
@@ -274,6 +274,7 @@ fn select<H: Host>(
     ensures done { H.tells → OnOk result (H.written host.new ++ output.new ≡ H.written host.old ++ (output.old ++ printed (reply_lines number session.now (executed database.now (Statement.Select name)).reply))) }
     ensures front { H.tells → WritesPrefix (H.written host.old) (H.written host.new) (output.old ++ printed (reply_lines number session.now (executed database.now (Statement.Select name)).reply)) }
     ensures moments { H.tells → Since (IsHandedOver (H.history host.old).now (output.old ++ printed (reply_lines number session.now (executed database.now (Statement.Select name)).reply))) (H.history host.old) (H.history host.new) }
+    ensures left { H.tells → OnErr result (WritesPrefix (H.written host.old) (H.written host.new ++ output.new) (output.old ++ printed (reply_lines number session.now (executed database.now (Statement.Select name)).reply))) }
     ensures uses { UsesOutput H.Source H.Host.own host.old host.new }
     ensures stops { IfErr result (OutputStops H.Source H.Host.own host.old host.new) }
 {
@@ -299,6 +300,7 @@ fn push_answer<H: Host>(
     ensures done { H.tells → OnOk result (H.written host.new ++ output.new ≡ H.written host.old ++ (output.old ++ printed (answer_lines number session.now table.now))) }
     ensures front { H.tells → WritesPrefix (H.written host.old) (H.written host.new) (output.old ++ printed (answer_lines number session.now table.now)) }
     ensures moments { H.tells → Since (IsHandedOver (H.history host.old).now (output.old ++ printed (answer_lines number session.now table.now))) (H.history host.old) (H.history host.new) }
+    ensures left { H.tells → OnErr result (WritesPrefix (H.written host.old) (H.written host.new ++ output.new) (output.old ++ printed (answer_lines number session.now table.now))) }
     ensures uses { UsesOutput H.Source H.Host.own host.old host.new }
     ensures stops { IfErr result (OutputStops H.Source H.Host.own host.old host.new) }
 {
@@ -325,6 +327,7 @@ fn push_rows<H: Host>(
     ensures done { H.tells → OnOk result (H.written host.new ++ output.new ≡ H.written host.old ++ (output.old ++ printed (rows_lines number session.now (map (λ r. r.now) rows.now)))) }
     ensures front { H.tells → WritesPrefix (H.written host.old) (H.written host.new) (output.old ++ printed (rows_lines number session.now (map (λ r. r.now) rows.now))) }
     ensures moments { H.tells → Since (IsHandedOver (H.history host.old).now (output.old ++ printed (rows_lines number session.now (map (λ r. r.now) rows.now)))) (H.history host.old) (H.history host.new) }
+    ensures left { H.tells → OnErr result (WritesPrefix (H.written host.old) (H.written host.new ++ output.new) (output.old ++ printed (rows_lines number session.now (map (λ r. r.now) rows.now)))) }
     ensures uses { UsesOutput H.Source H.Host.own host.old host.new }
     ensures stops { IfErr result (OutputStops H.Source H.Host.own host.old host.new) }
 {

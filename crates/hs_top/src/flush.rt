@@ -1,5 +1,5 @@
 // Hands output over to the host.
-ghost use Rattle.std.specs.Prelude.{◌≡◌, [], ◌++◌, OnOk, IfErr};
+ghost use Rattle.std.specs.Prelude.{◌≡◌, [], ◌++◌, OnOk, OnErr, IfErr, MatchResult};
 ghost use Rattle.hs_host.specs.Moments.{Since};
 ghost use Rattle.hs_host.specs.Used.{UsesOutput};
 ghost use Rattle.hs_top.specs.Holding.{IsHandedOver};
@@ -13,27 +13,30 @@ use hs_host::{Host, HostFault, tell};
 /// How many bytes of output are gathered before they are handed over.
 const MOST_GATHERED: usize = 65_536;
 
-/// Hands over all that is gathered.
+/// Hands over all that is gathered. Nothing is gathered behind it, also where only a part could be handed over.
 pub fn flush<H: Host>(output: &mut Output, host: &mut H) -> Result<(), Stop>
-    ensures empty { OnOk result (output.new ≡ []) }
+    ensures empty { output.new ≡ [] }
     ensures done { H.tells → OnOk result (H.written host.new ≡ H.written host.old ++ output.old) }
     ensures front { H.tells → WritesPrefix (H.written host.old) (H.written host.new) output.old }
     ensures moments { H.tells → Since (IsHandedOver (H.history host.old).now output.old) (H.history host.old) (H.history host.new) }
     ensures uses { UsesOutput H.Source H.Host.own host.old host.new }
+    ensures calm { MatchResult result (λ _. H.output_faults host.new ≡ H.output_faults host.old) (λ stop. stop ≡ Stop.NoMemory → H.output_faults host.new ≡ H.output_faults host.old) }
     ensures stops { IfErr result (OutputStops H.Source H.Host.own host.old host.new) }
 {
-    write_all(host, output.as_bytes())?;
+    let result = write_all(host, output.as_bytes());
     output.clear();
-    Ok(())
+    result
 }
 
 /// Hands over what is gathered, where it is 64 KiB or more.
 #[tactic(auto, using(crate::proofs::Prefixes::nothing_yet, hs_host::proofs::Passing::since_none))]
 pub fn flush_when_large<H: Host>(output: &mut Output, host: &mut H) -> Result<(), Stop>
     ensures done { H.tells → OnOk result (H.written host.new ++ output.new ≡ H.written host.old ++ output.old) }
+    ensures empty { OnErr result (output.new ≡ []) }
     ensures front { H.tells → WritesPrefix (H.written host.old) (H.written host.new) output.old }
     ensures moments { H.tells → Since (IsHandedOver (H.history host.old).now output.old) (H.history host.old) (H.history host.new) }
     ensures uses { UsesOutput H.Source H.Host.own host.old host.new }
+    ensures calm { MatchResult result (λ _. H.output_faults host.new ≡ H.output_faults host.old) (λ stop. stop ≡ Stop.NoMemory → H.output_faults host.new ≡ H.output_faults host.old) }
     ensures stops { IfErr result (OutputStops H.Source H.Host.own host.old host.new) }
 {
     if output.len() < MOST_GATHERED {
@@ -48,6 +51,7 @@ fn write_all<H: Host>(host: &mut H, bytes: &[u8]) -> Result<(), Stop>
     ensures front { H.tells → WritesPrefix (H.written host.old) (H.written host.new) bytes.now }
     ensures moments { H.tells → Since (IsHandedOver (H.history host.old).now bytes.now) (H.history host.old) (H.history host.new) }
     ensures uses { UsesOutput H.Source H.Host.own host.old host.new }
+    ensures calm { MatchResult result (λ _. H.output_faults host.new ≡ H.output_faults host.old) (λ stop. stop ≡ Stop.NoMemory → H.output_faults host.new ≡ H.output_faults host.old) }
     ensures stops { IfErr result (OutputStops H.Source H.Host.own host.old host.new) }
 {
     let mut rest = bytes;

@@ -1,11 +1,11 @@
 // Laws of the machine and of texts, which say that their definitions mean what they are to mean.
-ghost use Rattle.std.specs.Prelude.{◌≡◌, ℕ, ◌+◌, List, [], ◌∷◌, ◌++◌, Option, None, Some, Ok, Err, suc, IfSome, true, false};
+ghost use Rattle.std.specs.Prelude.{◌≡◌, ℕ, ◌+◌, List, [], ◌∷◌, ◌++◌, Option, None, Some, Ok, Err, suc, take, IfSome, true, false};
 ghost use Rattle.hs_values.specs.declared.value.Value.{Value};
 ghost use Rattle.hs_top.specs.declared.commit_text.Commit.{Commit};
 ghost use Rattle.hs_top.specs.declared.database.Database.{Database};
 ghost use Rattle.hs_top.specs.declared.statement.Statement.{Statement};
 ghost use Rattle.hs_top.specs.declared.table.Table.{Table};
-ghost use Rattle.hs_gate.specs.Groups.{groups_of, is_born};
+ghost use Rattle.hs_log.specs.Log.{is_born, is_broken, texts_of};
 ghost use Rattle.hs_top.specs.Damaged.{HasFirstEpoch, IsFirstDamage};
 ghost use Rattle.hs_top.specs.Database.{executed, first_repeated, is_among, named_by, table_of, Repeats};
 ghost use Rattle.hs_entries.specs.declared.item.Item.{Item};
@@ -13,8 +13,8 @@ ghost use Rattle.hs_entries.specs.Items.{items};
 ghost use Rattle.hs_machine.specs.Machine.{IsLawful as IsLawfulMachine, IsTelling};
 ghost use Rattle.hs_machine.specs.Replies.{HasOneReply, is_commit};
 ghost use Rattle.hs_top.specs.Acknowledged.{are_named, has_names, number_of, session_of};
-ghost use Rattle.hs_top.specs.Machine.{State, step_of, one_by_one};
-ghost use Rattle.hs_top.specs.Opening.{Opened, opened_of, replayed, texts_at, texts_from, ended_with, IsWholeLog};
+ghost use Rattle.hs_top.specs.Machine.{State, machine, step_of, steps, texts, one_by_one};
+ghost use Rattle.hs_top.specs.Opening.{Opened, begun_with, opened_at, opened_of, replayed, texts_at, texts_from, ended_with, IsWholeLog};
 ghost use Rattle.hs_top.specs.Statement.{statement_of};
 ghost use Rattle.hs_top.specs.Spelling.{IsSpellable, spelled};
 ghost use Rattle.hs_top.specs.CommitText.{commit_text, commit_of, IsSession, IsLawful};
@@ -80,10 +80,15 @@ pub fn a_log_gives_what_the_runs_made()
     ensures whole { (old new : List ℕ) (opened : Opened) (input : List ℕ) → opened_of old ≡ Ok opened → IsWholeLog new (texts_at old ++ texts_from opened input) → opened_of new ≡ Ok (ended_with opened input) }
 {}
 
+/// The first so many texts that a run logs are those of its first so many turns, and give what these made.
+pub fn a_front_of_the_texts_is_that_of_some_turns()
+    ensures { (opened : Opened) (input : List ℕ) (count : ℕ) → IfSome opened.last IsSession → (turns : ℕ) × ((take count (texts_from opened input) ≡ texts turns (machine (items 1 input) (begun_with opened))) × (replayed opened (take count (texts_from opened input)) ≡ Ok (opened_at (steps turns (machine (items 1 input) (begun_with opened))).state))) }
+{}
+
 /// The number of a damage is that of the first damaged group: the groups before it are made again one after another, and it makes
 /// nothing of what they made, or is broken. It is 0 exactly where a born log isn't open with epoch 1.
 pub fn damage_is_that_of_the_first_group()
-    ensures group { (log : List ℕ) (before : ℕ) → opened_of log ≡ Err (suc before) → IsFirstDamage (groups_of log) before }
+    ensures group { (log : List ℕ) (before : ℕ) → opened_of log ≡ Err (suc before) → IsFirstDamage (texts_of log) (is_broken log) before }
     ensures header { (log : List ℕ) → opened_of log ≡ Err 0 → (is_born log ≡ true) × (HasFirstEpoch log → ⊥) }
     ensures no_header { (log : List ℕ) → is_born log ≡ true → (HasFirstEpoch log → ⊥) → opened_of log ≡ Err 0 }
 {}

@@ -1,22 +1,20 @@
 // The output that is gathered, line by line.
-ghost use Rattle.std.specs.Prelude.{◌≡◌, ◌≤◌, ◌++◌, [], length, take, codes, OnOk};
-ghost use Rattle.std.specs.Fmt.{decimal};
-ghost use Rattle.hs_machine.specs.Lines.{OpenedAt, ClosedAt, RowOf, OkOf, RefusedOf, printed_line, count_text, committed_text, text_or_nothing, refusal_text};
-ghost use Rattle.hs_machine.specs.Replies.{final_line, number_of};
+ghost use Rattle.std.specs.Prelude.{◌≡◌, ◌≤◌, ◌++◌, [], length, take, OnOk, OnErr};
+ghost use Rattle.hs_machine.specs.Lines.{OpenedAt, ClosedAt, RowOf, printed_line};
+ghost use Rattle.hs_machine.specs.Replies.{final_line};
 
-use crate::integer::push_number;
-use crate::values::push_values;
-use hs_base::CommitNo;
-use hs_machine::{Refusal, Reply};
+use crate::line::Line;
+use hs_machine::Reply;
 use hs_values::Value;
 use std::alloc::{AllocError, Global};
 use std::marker::Model;
 
-/// Output that is gathered and not yet handed over, which contracts see as its bytes. After an `Err`,
-/// which is want of memory, what is gathered may end with a part of a line.
+/// Output that is gathered and not yet handed over, which contracts see as its bytes: whole lines, also where memory is
+/// wanted for one.
 #[derive(Drop)]
 pub struct Output {
     text: Vec<u8>,
+    line: Line,
 }
 
 impl Model for Output {
@@ -37,6 +35,7 @@ impl Output {
     {
         Output {
             text: Vec::new(alloc),
+            line: Line::new(alloc),
         }
     }
 
@@ -69,144 +68,48 @@ impl Output {
         self.text.clear();
     }
 
-    /// The first line of a run over a database with so many commits.
+    /// The first line of a run over a database with so many commits. After an `Err`, which is want of memory, nothing is added.
     pub fn push_opened(&mut self, commits: u64) -> Result<(), AllocError>
-        ensures { OnOk result (self.new ≡ self.old ++ printed_line (OpenedAt commits)) }
+        ensures ok { OnOk result (self.new ≡ self.old ++ printed_line (OpenedAt commits)) }
+        ensures err { OnErr result (self.new ≡ self.old) }
     {
-        self.push(b"opened at ")?;
-        push_number(&mut self.text, commits, b'\n')
+        self.line.clear();
+        self.line.push_opened(commits)?;
+        self.text.extend_from_slice(self.line.as_bytes())
     }
 
-    /// The last line of a run.
+    /// The last line of a run. After an `Err`, which is want of memory, nothing is added.
     pub fn push_closed(&mut self, commits: u64) -> Result<(), AllocError>
-        ensures { OnOk result (self.new ≡ self.old ++ printed_line (ClosedAt commits)) }
+        ensures ok { OnOk result (self.new ≡ self.old ++ printed_line (ClosedAt commits)) }
+        ensures err { OnErr result (self.new ≡ self.old) }
     {
-        self.push(b"closed at ")?;
-        push_number(&mut self.text, commits, b'\n')
+        self.line.clear();
+        self.line.push_closed(commits)?;
+        self.text.extend_from_slice(self.line.as_bytes())
     }
 
-    /// The line of one row of the answer to item `number` of a session.
+    /// The line of one row of the answer to item `number` of a session. After an `Err`, which is want of memory, nothing is added.
     pub fn push_row(&mut self, number: u64, session: &str, row: &[Value]) -> Result<(), AllocError>
-        ensures { OnOk result (self.new ≡ self.old ++ printed_line (RowOf number session.now row.now)) }
+        ensures ok { OnOk result (self.new ≡ self.old ++ printed_line (RowOf number session.now row.now)) }
+        ensures err { OnErr result (self.new ≡ self.old) }
     {
-        self.push_item(number, session)?;
-        self.push(b": row ")?;
-        push_values(&mut self.text, row)?;
-        self.push_end()
+        self.line.clear();
+        self.line.push_row(number, session, row)?;
+        self.text.extend_from_slice(self.line.as_bytes())
     }
 
-    /// The line of the reply to item `number` of a session.
+    /// The line of the reply to item `number` of a session. After an `Err`, which is want of memory, nothing is added.
     pub fn push_reply(
         &mut self,
         number: u64,
         session: &str,
         reply: &Reply,
     ) -> Result<(), AllocError>
-        ensures { OnOk result (self.new ≡ self.old ++ printed_line (final_line number session.now reply.now)) }
+        ensures ok { OnOk result (self.new ≡ self.old ++ printed_line (final_line number session.now reply.now)) }
+        ensures err { OnErr result (self.new ≡ self.old) }
     {
-        match reply {
-            Reply::Ok {
-                count,
-                committed,
-                ..
-            } => self.push_done(number, session, *count, *committed),
-            Reply::Refused(refusal) => self.push_refused(number, session, refusal),
-        }
-    }
-
-    fn push_done(
-        &mut self,
-        number: u64,
-        session: &str,
-        count: Option<u64>,
-        committed: Option<CommitNo>,
-    ) -> Result<(), AllocError>
-        ensures { OnOk result (self.new ≡ self.old ++ printed_line (OkOf number session.now count (number_of committed))) }
-    {
-        self.push_item(number, session)?;
-        self.push_count(count)?;
-        self.push_committed(committed)
-    }
-
-    // An item's number and its session.
-    fn push_item(&mut self, number: u64, session: &str) -> Result<(), AllocError>
-        ensures { OnOk result (self.new ≡ self.old ++ (decimal number ++ codes " " ++ session.now)) }
-    {
-        push_number(&mut self.text, number, b' ')?;
-        self.push(session.as_bytes())
-    }
-
-    #[tactic(auto, using(crate::proofs::Pushed::one_counted))]
-    fn push_count(&mut self, count: Option<u64>) -> Result<(), AllocError>
-        ensures { OnOk result (self.new ≡ self.old ++ (codes ": ok" ++ text_or_nothing count_text count)) }
-    {
-        match count {
-            Some(1) => self.push(b": ok 1 row"),
-            Some(n) => {
-                self.push(b": ok ")?;
-                push_number(&mut self.text, n, b' ')?;
-                self.push(b"rows")
-            }
-            None => self.push(b": ok"),
-        }
-    }
-
-    // The number of a commit, and the end of the line.
-    fn push_committed(&mut self, committed: Option<CommitNo>) -> Result<(), AllocError>
-        ensures { OnOk result (self.new ≡ self.old ++ (text_or_nothing committed_text (number_of committed) ++ codes "\n")) }
-    {
-        match committed {
-            Some(CommitNo(n)) => {
-                self.push(b" committed ")?;
-                push_number(&mut self.text, n, b'\n')
-            }
-            None => self.push_end(),
-        }
-    }
-
-    fn push_refused(
-        &mut self,
-        number: u64,
-        session: &str,
-        refusal: &Refusal,
-    ) -> Result<(), AllocError>
-        ensures { OnOk result (self.new ≡ self.old ++ printed_line (RefusedOf number session.now refusal.now)) }
-    {
-        self.push_item(number, session)?;
-        self.push(b": refused ")?;
-        self.push_refusal(refusal)?;
-        self.push_end()
-    }
-
-    fn push_refusal(&mut self, refusal: &Refusal) -> Result<(), AllocError>
-        ensures { OnOk result (self.new ≡ self.old ++ refusal_text refusal.now) }
-    {
-        match refusal {
-            Refusal::TooLong => self.push(b"too long"),
-            Refusal::Entry => self.push(b"entry"),
-            Refusal::Sessions => self.push(b"sessions"),
-            Refusal::NotBuilt => self.push(b"not built"),
-            Refusal::NoSuch(name) => {
-                self.push(b"no such ")?;
-                self.push(name.as_str().as_bytes())
-            }
-            Refusal::Exists(name) => {
-                self.push(b"exists ")?;
-                self.push(name.as_str().as_bytes())
-            }
-        }
-    }
-
-    fn push(&mut self, piece: &[u8]) -> Result<(), AllocError>
-        ensures { OnOk result (self.new ≡ self.old ++ piece.now) }
-    {
-        self.text.extend_from_slice(piece)
-    }
-
-    fn push_end(&mut self) -> Result<(), AllocError>
-        ensures { OnOk result (self.new ≡ self.old ++ codes "\n") }
-    {
-        self.text.push(b'\n')?;
-        Ok(())
+        self.line.clear();
+        self.line.push_reply(number, session, reply)?;
+        self.text.extend_from_slice(self.line.as_bytes())
     }
 }

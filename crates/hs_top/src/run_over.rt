@@ -1,7 +1,7 @@
 // The top call.
-ghost use Rattle.std.specs.Prelude.{◌≡◌, ◌⊎◌, ◌↔◌, ℕ, ◌+◌, ◌^◌, ◌<◌, ◌≤◌, List, [], ◌++◌, true, false, None, Some, Ok, Err, length, OnOk, IfErr, IsErrOf, MatchResult};
+ghost use Rattle.std.specs.Prelude.{◌≡◌, ◌⊎◌, ◌↔◌, ℕ, ◌+◌, ◌^◌, ◌<◌, ◌≤◌, List, [], ◌++◌, true, false, None, Some, Ok, Err, length, OnOk, IfErr, IsErrOf};
 ghost use Rattle.hs_host.specs.Host.{Rose};
-ghost use Rattle.hs_gate.specs.Groups.{is_born};
+ghost use Rattle.hs_log.specs.Log.{is_born};
 ghost use Rattle.hs_host.specs.Disk.{settled};
 ghost use Rattle.hs_host.specs.Files.{IsUnnamed, IsOpen, IsForeign, IsHonest};
 ghost use Rattle.hs_host.specs.Moments.{Since, disk_of};
@@ -9,8 +9,9 @@ ghost use Rattle.hs_entries.specs.Items.{items};
 ghost use Rattle.hs_top.specs.Command.{database_of};
 ghost use Rattle.hs_top.specs.Crash.{IsSafe, IsKept, IsLater, Survives};
 ghost use Rattle.hs_top.specs.Holding.{IsHeld};
+ghost use Rattle.hs_top.specs.Mounting.{Mounts, MountStops};
 ghost use Rattle.hs_top.specs.Machine.{WritesPrefix, transcript, transcript_within, machine, texts_of};
-ghost use Rattle.hs_top.specs.Opening.{Opened, nothing_logged, opened_of, opened_by, begun_with, texts_at, texts_from, ended_with, shown, IsWholeLog, IsDamageOf};
+ghost use Rattle.hs_top.specs.Opening.{Opened, nothing_logged, opened_of, opened_by, begun_with, texts_at, texts_from, ended_with, shown, IsWholeLog};
 ghost use Rattle.hs_host.specs.Used.{Told, UsesAll};
 ghost use Rattle.hs_top.specs.Running.{Stands, OnlyLog, texts_in, is_damaged};
 ghost use Rattle.hs_top.specs.Stop.{RunStops};
@@ -103,9 +104,13 @@ pub fn run<H: Host>(alloc: Global, words: &Words, host: &mut H) -> Status
     if let Err(status) = mount(name.as_str(), host) {
         return status;
     }
-    match serve(alloc, host) {
+    let opening = match open_log(alloc, host) {
+        Ok(opening) => opening,
+        Err(stop) => return Status::from(stop),
+    };
+    match answer_all(alloc, opening, host) {
         Ok(()) => Status::Done,
-        Err(status) => status,
+        Err(stop) => Status::from(stop),
     }
 }
 
@@ -115,66 +120,15 @@ fn mount<H: Host>(name: &str, host: &mut H) -> Result<(), Status>
     ensures opened { OnOk result (IsOpen (H.standing host.new)) }
     ensures named { OnOk result ((H.standing host.new).name ≡ Some name.now) }
     ensures named_at { IfErr result (λ status. (status ≡ Status.NoMemory → ⊥) → (H.standing host.new).name ≡ Some name.now) }
-    ensures honest { (H.standing host.new).is_honest ≡ (H.standing host.old).is_honest }
-    ensures only { IfErr result (λ status. (status ≡ Status.Damaged Damage.Foreign) ⊎ ((status ≡ Status.DiskFault) ⊎ (status ≡ Status.NoMemory))) }
-    ensures foreign { H.tells → IsErrOf result (Status.Damaged Damage.Foreign) → IsForeign (H.standing host.old) }
     ensures own { H.tells → OnOk result (IsForeign (H.standing host.old) → ⊥) }
-    ensures files { H.tells → H.files host.new ≡ H.files host.old }
-    ensures history { H.tells → H.history host.new ≡ H.history host.old }
-    ensures disk_fault { IsErrOf result Status.DiskFault → Rose (H.disk_faults host.old) (H.disk_faults host.new) }
-    ensures disk_later { H.disk_faults host.old ≤ H.disk_faults host.new }
-    ensures unread { H.unread host.new ≡ H.unread host.old }
-    ensures input_faults { H.input_faults host.new ≡ H.input_faults host.old }
-    ensures written { H.written host.new ≡ H.written host.old }
-    ensures output_faults { H.output_faults host.new ≡ H.output_faults host.old }
+    ensures mounts { Mounts H.Source H.Host.own host.old host.new }
+    ensures stops { IfErr result (MountStops H.Source H.Host.own host.old host.new) }
 {
     match host.mount(name) {
         Ok(()) => Ok(()),
         Err(MountFault::Foreign) => Err(Status::Damaged(Damage::Foreign)),
         Err(MountFault::Fault) => Err(Status::DiskFault),
         Err(MountFault::NoMemory) => Err(Status::NoMemory),
-    }
-}
-
-// Opens the log, and answers all items.
-#[tactic(auto, using(crate::proofs::Prefixes::nothing_yet, hs_host::proofs::Passing::since_none))]
-fn serve<H: Host>(alloc: Global, host: &mut H) -> Result<(), Status>
-    requires { IsOpen (H.standing host.old) }
-    ensures front { H.tells → IsHonest (H.standing host.old) → WritesPrefix (H.written host.old) (H.written host.new) (shown (opened_of (H.files host.old).log) (H.unread host.old)) }
-    ensures opened { H.tells → IsHonest (H.standing host.old) → (number : ℕ) → opened_of (H.files host.old).log ≡ Err number → OnOk result ⊥ }
-    ensures done { H.tells → IsHonest (H.standing host.old) → (opened : Opened) → opened_of (H.files host.old).log ≡ Ok opened → OnOk result (H.written host.new ≡ H.written host.old ++ transcript (begun_with opened) (H.unread host.old)) }
-    ensures log { H.tells → IsHonest (H.standing host.old) → (opened : Opened) → opened_of (H.files host.old).log ≡ Ok opened → OnOk result (IsWholeLog (H.files host.new).log (texts_at (H.files host.old).log ++ texts_from opened (H.unread host.old))) }
-    ensures crash { H.tells → IsHonest (H.standing host.old) → disk_of (H.history host.old).now FileKind.Log ≡ settled (H.files host.old).log → (opened : Opened) → opened_of (H.files host.old).log ≡ Ok opened → Since (IsKept (H.files host.old) opened (H.unread host.old) (H.written host.old) (H.history host.old).now) (H.history host.old) (H.history host.new) }
-    ensures begun { H.tells → IsHonest (H.standing host.old) → is_born (H.files host.old).log ≡ false → (is_born (H.files host.new).log ≡ false) ⊎ Survives (H.files host.old).log nothing_logged (H.unread host.old) (H.written host.old) (H.written host.new) (H.files host.new).log }
-    ensures alone { H.tells → IsHonest (H.standing host.old) → disk_of (H.history host.old).now FileKind.Log ≡ settled (H.files host.old).log → Since (IsLater (H.history host.old).now) (H.history host.old) (H.history host.new) }
-    ensures safe { H.tells → IsHonest (H.standing host.old) → disk_of (H.history host.old).now FileKind.Log ≡ settled (H.files host.old).log → (opened : Opened) → opened_of (H.files host.old).log ≡ Ok opened → MatchResult result (λ _. IsSafe (H.files host.old).log opened (H.unread host.old) (H.written host.old) (H.history host.new).now) (λ status. (is_born (H.files host.old).log ≡ true) ⊎ ((status ≡ Status.DiskFault → ⊥) × (status ≡ Status.NoMemory → ⊥)) → IsSafe (H.files host.old).log opened (H.unread host.old) (H.written host.old) (H.history host.new).now) }
-    ensures before_too_long { H.tells → IsHonest (H.standing host.old) → (opened : Opened) → opened_of (H.files host.old).log ≡ Ok opened → IsErrOf result Status.InputTooLong → H.written host.new ≡ H.written host.old ++ transcript_within (2 ^ 30) (begun_with opened) (H.unread host.old) }
-    ensures damaged { H.tells → IsHonest (H.standing host.old) → (damage : Damage) → IsErrOf result (Status.Damaged damage) → IsDamageOf (opened_of (H.files host.old).log) damage }
-    ensures undamaged { H.tells → IsHonest (H.standing host.old) → (number : ℕ) → opened_of (H.files host.old).log ≡ Err number → IfErr result (λ status. (status ≡ Status.Damaged (Damage.Log number)) ⊎ ((status ≡ Status.DiskFault) ⊎ (status ≡ Status.NoMemory))) }
-    ensures silent { IfErr result (λ status. is_damaged status ≡ true → (H.written host.new ≡ H.written host.old) × (H.unread host.new ≡ H.unread host.old)) }
-    ensures untouched { H.tells → IsHonest (H.standing host.old) → IfErr result (λ status. is_damaged status ≡ true → H.files host.new ≡ H.files host.old) }
-    ensures kept { H.tells → IsHonest (H.standing host.old) → (number : ℕ) → opened_of (H.files host.old).log ≡ Err number → H.files host.new ≡ H.files host.old }
-    ensures others { H.tells → IsHonest (H.standing host.old) → OnlyLog (H.files host.old) (H.files host.new) }
-    ensures read { H.tells → OnOk result (H.unread host.new ≡ []) }
-    ensures done_within { H.tells → OnOk result (length (H.unread host.old) ≤ 2 ^ 30) }
-    ensures too_long { H.tells → IsErrOf result Status.InputTooLong → 2 ^ 30 < length (H.unread host.old) }
-    ensures input_fault { IsErrOf result Status.InputFault → Rose (H.input_faults host.old) (H.input_faults host.new) }
-    ensures output_fault { IsErrOf result Status.OutputFault → Rose (H.output_faults host.old) (H.output_faults host.new) }
-    ensures disk_fault { IsErrOf result Status.DiskFault → Rose (H.disk_faults host.old) (H.disk_faults host.new) }
-    ensures only { IsErrOf result Status.Done ⊎ IsErrOf result Status.Usage → ⊥ }
-    ensures own_files { IsErrOf result (Status.Damaged Damage.Foreign) → ⊥ }
-    ensures input_later { H.input_faults host.old ≤ H.input_faults host.new }
-    ensures output_later { H.output_faults host.old ≤ H.output_faults host.new }
-    ensures disk_later { H.disk_faults host.old ≤ H.disk_faults host.new }
-    ensures standing { H.standing host.new ≡ H.standing host.old }
-{
-    let opening = match open_log(alloc, host) {
-        Ok(opening) => opening,
-        Err(stop) => return Err(Status::from(stop)),
-    };
-    match answer_all(alloc, opening, host) {
-        Ok(()) => Ok(()),
-        Err(stop) => Err(Status::from(stop)),
     }
 }
 

@@ -3,8 +3,9 @@ ghost use Rattle.std.specs.Prelude.{◌≡◌, ℕ, ◌<◌, ◌≤◌, List, []
 ghost use Rattle.hs_host.specs.Host.{Rose};
 ghost use Rattle.hs_host.specs.Moments.{Since, IsReading};
 ghost use Rattle.hs_host.specs.Used.{Told, UsesInput, UsesOutput, UsesAll};
-ghost use Rattle.hs_entries.specs.Left.{TakesFirst, TakesWhole, RunsOut, IsBeyond, KeepsRoom};
-ghost use Rattle.hs_entries.specs.Reader.{AgreesWith, ahead, has_ended, kept, left, left_items, left_whole, room};
+ghost use Rattle.hs_entries.specs.Left.{IsBeyond};
+ghost use Rattle.hs_entries.specs.Taking.{TakesItem, Counts};
+ghost use Rattle.hs_entries.specs.Reader.{AgreesWith, ahead, has_ended, kept, left, next_number, room};
 ghost use Rattle.hs_top.specs.Crash.{IsLater};
 ghost use Rattle.hs_top.specs.Holding.{IsHandedOver, IsHeld, IsAcknowledging};
 ghost use Rattle.hs_top.specs.Machine.{WritesPrefix, rest_of, lines_of, texts_of};
@@ -79,12 +80,9 @@ fn next_item<H: Host>(
 ) -> Result<Item, Stop>
     requires { kept reader.old ≡ None }
     ensures sound { OnOk result (kept reader.new ≡ None) }
-    ensures item { H.tells → IfOk result (λ item. TakesFirst (left_items reader.old (H.unread host.old)) item (left_items reader.new (H.unread host.new))) }
-    ensures whole_item { H.tells → IfOk result (λ item. RunsOut (left reader.old (H.unread host.old)) → TakesWhole (left_whole reader.old (H.unread host.old)) item (left_whole reader.new (H.unread host.new))) }
-    ensures count { H.tells → OnOk result (KeepsRoom (left reader.old (H.unread host.old)) (left reader.new (H.unread host.new))) }
-    ensures end { IfOk result (λ item. item ≡ Item.End → (has_ended reader.new ≡ true) × (ahead reader.new ≡ [])) }
+    ensures items { H.tells → IfOk result (λ item. TakesItem reader.old (H.unread host.old) item reader.new (H.unread host.new)) }
+    ensures counts { IfOk result (λ item. Counts reader.old item reader.new) }
     ensures agrees { H.tells → AgreesWith reader.old (H.unread host.old) → AgreesWith reader.new (H.unread host.new) }
-    ensures used { IfOk result (λ item. is_end item ≡ false → room reader.new < room reader.old) }
     ensures too_long { H.tells → IsErrOf result Stop.TooLong → IsBeyond (left reader.old (H.unread host.old)) × (H.written host.new ≡ H.written host.old ++ output.old) }
     ensures done { H.tells → OnOk result (H.written host.new ++ output.new ≡ H.written host.old ++ output.old) }
     ensures front { H.tells → WritesPrefix (H.written host.old) (H.written host.new) output.old }
@@ -96,10 +94,13 @@ fn next_item<H: Host>(
     match read_next(reader, host) {
         Ok(item) => Ok(item),
         Err(InputFault::Fault) => Err(Stop::Input),
-        Err(InputFault::NoMemory) => Err(Stop::NoMemory),
         Err(InputFault::TooLong) => {
             flush(output, host)?;
             Err(Stop::TooLong)
+        }
+        Err(InputFault::NoMemory) => {
+            flush(output, host)?;
+            Err(Stop::NoMemory)
         }
     }
 }
@@ -113,6 +114,8 @@ fn flush_unless_ready<H: Host>(
 ) -> Result<(), Stop>
     ensures left { (rest : List ℕ) → left reader.new rest ≡ left reader.old rest }
     ensures ahead { ahead reader.new ≡ ahead reader.old }
+    ensures room { room reader.new ≡ room reader.old }
+    ensures number { next_number reader.new ≡ next_number reader.old }
     ensures kept { kept reader.new ≡ kept reader.old }
     ensures ended { has_ended reader.new ≡ has_ended reader.old }
     ensures done { H.tells → OnOk result (H.written host.new ++ output.new ≡ H.written host.old ++ output.old) }
@@ -131,12 +134,9 @@ fn flush_unless_ready<H: Host>(
 fn read_next<H: Host>(reader: &mut EntryReader, host: &mut H) -> Result<Item, InputFault>
     requires { kept reader.old ≡ None }
     ensures sound { OnOk result (kept reader.new ≡ None) }
-    ensures item { H.tells → IfOk result (λ item. TakesFirst (left_items reader.old (H.unread host.old)) item (left_items reader.new (H.unread host.new))) }
-    ensures whole_item { H.tells → IfOk result (λ item. RunsOut (left reader.old (H.unread host.old)) → TakesWhole (left_whole reader.old (H.unread host.old)) item (left_whole reader.new (H.unread host.new))) }
-    ensures count { H.tells → OnOk result (KeepsRoom (left reader.old (H.unread host.old)) (left reader.new (H.unread host.new))) }
-    ensures end { IfOk result (λ item. item ≡ Item.End → (has_ended reader.new ≡ true) × (ahead reader.new ≡ [])) }
+    ensures items { H.tells → IfOk result (λ item. TakesItem reader.old (H.unread host.old) item reader.new (H.unread host.new)) }
+    ensures counts { IfOk result (λ item. Counts reader.old item reader.new) }
     ensures agrees { H.tells → AgreesWith reader.old (H.unread host.old) → AgreesWith reader.new (H.unread host.new) }
-    ensures used { IfOk result (λ item. is_end item ≡ false → room reader.new < room reader.old) }
     ensures too_long { H.tells → IsErrOf result InputFault.TooLong → IsBeyond (left reader.old (H.unread host.old)) }
     ensures uses { UsesInput H.Source H.Host.own host.old host.new }
     ensures fault { IsErrOf result InputFault.Fault → Rose (H.input_faults host.old) (H.input_faults host.new) }

@@ -1,10 +1,9 @@
 // The sessions of a run.
-ghost use Rattle.std.specs.Prelude.{◌≡◌, ◌≤◌, ◌+◌, [], length, None, IfOk, IfSome};
+ghost use Rattle.std.specs.Prelude.{◌≡◌, ◌≤◌, ◌<◌, ◌+◌, ◌∷◌, ◌++◌, [], length, None, IfOk, IfSome, OnOk};
 ghost use Rattle.std.specs.Option.{option_map};
-ghost use Rattle.hs_top.specs.Sessions.{number_in as number_among};
 
-use crate::names::Names;
 use hs_values::Name;
+use indexmap::IndexSet;
 use std::alloc::{AllocError, Global};
 use std::marker::Model;
 
@@ -12,29 +11,29 @@ use std::marker::Model;
 pub const MOST_SESSIONS: usize = 64;
 
 /// The names of the sessions, in the order of their first entries.
-#[derive(Debug, Drop)]
+#[derive(Drop)]
 pub struct Sessions {
-    names: Names,
-    ghost few: { length names ≤ 64 },
+    names: IndexSet<String>,
+    ghost few: { length names.keys ≤ 64 },
 }
 
 impl Model for Sessions {
-    ghost use Rattle.std.specs.Prelude.{List, ℕ};
+    ghost use Rattle.std.specs.Prelude.{List, ℕ, map, string_bytes};
 
     ghost Value = { List (List ℕ) };
 
-    ghost view = { λ s. s.names };
+    ghost view = { λ s. map string_bytes s.names.keys };
 }
 
 impl Sessions {
-    ghost use Rattle.hs_top.specs.Sessions.{admitted};
+    ghost use Rattle.hs_top.specs.Sessions.{admitted, number_in};
 
     /// No sessions. Takes no memory.
     pub fn new(alloc: Global) -> Sessions
         ensures { result ≡ [] }
     {
         Sessions {
-            names: Names::new(alloc),
+            names: IndexSet::new(alloc),
         }
     }
 
@@ -44,30 +43,41 @@ impl Sessions {
         ensures number { IfOk result (λ n. option_map (λ s. record { number = s; sessions = self.new }) n ≡ admitted name.now self.old) }
         ensures kept { IfOk result (λ n. n ≡ None → self.new ≡ self.old) }
     {
-        if let Some(number) = number_in(name, self.names.as_slice()) {
-            return Ok(Some(number as u32));
+        if let Some(number) = self.number_of(name.as_str()) {
+            return Ok(Some(number));
         }
-        if self.names.len() >= MOST_SESSIONS {
+        if self.len() >= MOST_SESSIONS {
             return Ok(None);
         }
-        self.names.push(name.copy()?)?;
-        Ok(Some(self.names.len() as u32))
+        self.add(name)?;
+        Ok(Some(self.len() as u32))
     }
-}
 
-// The number of a name among others, counted from 1.
-fn number_in(name: &Name, names: &[Name]) -> Option<usize>
-    ensures number { result ≡ number_among name.now names.now }
-    ensures within { IfSome result (λ n. n ≤ length names.now) }
-{
-    let mut rest = names;
-    let mut number = 1;
-    while let Some((first, more)) = rest.split_first() {
-        if first.as_str() == name.as_str() {
-            return Some(number);
-        }
-        rest = more;
-        number += 1;
+    // How many there are.
+    fn len(&self) -> usize
+        ensures number { result ≡ length self.now }
+        ensures few { result ≤ 64 }
+    {
+        self.names.len()
     }
-    None
+
+    // The number of a name, counted from 1.
+    fn number_of(&self, name: &str) -> Option<u32>
+        ensures { result ≡ number_in name.now self.now }
+    {
+        match self.names.get_index_of(name) {
+            Some(at) => Some(at as u32 + 1),
+            None => None,
+        }
+    }
+
+    // Adds a new name.
+    fn add(&mut self, name: &Name) -> Result<(), AllocError>
+        requires new { number_in name.now self.old ≡ None }
+        requires few { length self.old < 64 }
+        ensures { OnOk result (self.new ≡ self.old ++ name.now ∷ []) }
+    {
+        self.names.insert(name.copy()?.into_string())?;
+        Ok(())
+    }
 }

@@ -1,6 +1,6 @@
 // Why a run stops before its end.
 
-use hs_gate::GateFault;
+use hs_log::LogFault;
 use std::alloc::{AllocError, AllocFailed};
 
 /// Why a run stops before its end.
@@ -42,17 +42,17 @@ impl<T: Drop> From<AllocFailed<T>> for Stop {
     }
 }
 
-impl From<GateFault> for Stop {
+impl From<LogFault> for Stop {
     ghost use Rattle.std.specs.Prelude.{◌≡◌};
     ghost use Rattle.hs_top.specs.Stop.{stop_of};
 
     ghost from_gives = { λ f stop. stop ≡ stop_of f };
 
-    fn from(fault: GateFault) -> Self {
+    fn from(fault: LogFault) -> Self {
         match fault {
-            GateFault::Disk => Stop::Disk,
-            GateFault::Broken(group) => Stop::Damaged(group),
-            GateFault::NoMemory => Stop::NoMemory,
+            LogFault::Disk => Stop::Disk,
+            LogFault::Broken(number) => Stop::Damaged(number),
+            LogFault::NoMemory => Stop::NoMemory,
         }
     }
 }

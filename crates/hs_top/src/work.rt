@@ -1,7 +1,7 @@
 // What entries work on.
 use crate::database::Database;
 use crate::sessions::Sessions;
-use crate::statement_log::StatementLog;
+use hs_log::Log;
 use hs_values::Bytes;
 
 /// What entries work on: the sessions, the database, the log of its commits, and memory for a commit's text.
@@ -9,6 +9,6 @@ use hs_values::Bytes;
 pub struct Work {
     pub sessions: Sessions,
     pub database: Database,
-    pub log: StatementLog,
+    pub log: Log,
     pub text: Bytes,
 }

@@ -13,11 +13,7 @@ pub mod laws;
 mod name;
 mod row;
 mod row_list;
-#[cfg(test)]
-mod row_tests;
 mod sql_type;
-#[cfg(test)]
-mod tests;
 mod types;
 mod value;
 mod words;

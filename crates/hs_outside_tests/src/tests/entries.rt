@@ -1,5 +1,6 @@
 // Inputs with their items, written by hand.
 use hs_entries::{EntryReader, InputFault, Item, MOST_BYTES};
+use hs_host::Source;
 use hs_memhost::{CallList, Images, MemHost};
 use hs_values::Bytes;
 use std::alloc::{AllocError, Global};
@@ -198,32 +199,6 @@ fn long_input(
     Ok(input)
 }
 
-// Adds the text of an answer, and says whether it's the last one to ask for.
-fn show(to: &mut String, answer: Result<Item, InputFault>) -> Result<bool, AllocError> {
-    let alloc = *to.allocator();
-    let (text, is_last) = match answer {
-        Ok(
-            Item::Entry {
-                number,
-                session,
-                text,
-                at,
-            },
-        ) => (
-            show_entry(alloc, number, session.as_str(), text.as_str(), at)?,
-            false,
-        ),
-        Ok(Item::Bad { number }) => (format!(in alloc; "{number}:bad|")?, false),
-        Ok(Item::TooLong { number }) => (format!(in alloc; "{number}:long|")?, false),
-        Ok(Item::End) => (String::from_str(alloc, "end")?, true),
-        Err(InputFault::Fault) => (String::from_str(alloc, "fault")?, true),
-        Err(InputFault::TooLong) => (String::from_str(alloc, "beyond")?, true),
-        Err(InputFault::NoMemory) => (String::from_str(alloc, "no memory")?, true),
-    };
-    to.push_str(text.as_str())?;
-    Ok(is_last)
-}
-
 fn show_entry(
     alloc: Global,
     number: u64,
@@ -238,23 +213,68 @@ fn show_entry(
     format!(in alloc; "{number}:{session}@{at}:{text}|")
 }
 
+fn show_fault(alloc: Global, fault: InputFault) -> Result<String, AllocError> {
+    let text = match fault {
+        InputFault::Fault => "fault",
+        InputFault::TooLong => "beyond",
+        InputFault::NoMemory => "no memory",
+    };
+    String::from_str(alloc, text)
+}
+
+// The text of an answer.
+fn show(alloc: Global, answer: Result<Item, InputFault>) -> Result<String, AllocError> {
+    match answer {
+        Ok(
+            Item::Entry {
+                number,
+                session,
+                text,
+                at,
+            },
+        ) => show_entry(alloc, number, session.as_str(), text.as_str(), at),
+        Ok(Item::Bad { number }) => format!(in alloc; "{number}:bad|"),
+        Ok(Item::TooLong { number }) => format!(in alloc; "{number}:long|"),
+        Ok(Item::End) => String::from_str(alloc, "end"),
+        Err(fault) => show_fault(alloc, fault),
+    }
+}
+
+// The text of the next answer.
+fn next<S: Source>(
+    alloc: Global,
+    reader: &mut EntryReader,
+    source: &mut S,
+) -> Result<String, AllocError> {
+    show(alloc, reader.next(source))
+}
+
+// Adds the text of the next answer, and says whether it is the last one to ask for.
+fn push_next(
+    to: &mut String,
+    reader: &mut EntryReader,
+    source: &mut MemHost,
+) -> Result<bool, AllocError> {
+    let calls = source.calls();
+    let is_ready = reader.is_ready();
+    let text = next(*to.allocator(), reader, source)?;
+    if is_ready != (source.calls() == calls) {
+        to.push_str("not ready ")?;
+    }
+    to.push_str(text.as_str())?;
+    Ok(!text.as_str().ends_with('|'))
+}
+
 // The answers up to the end or the first fault, which is then answered again.
 fn answers(alloc: Global, limit: u64, source: &mut MemHost) -> Result<String, AllocError> {
     let mut reader = EntryReader::new(alloc, limit);
     let mut shown = String::new(alloc);
     for _ in 0..100 {
-        let calls = source.calls();
-        let is_ready = reader.is_ready();
-        let answer = reader.next(source);
-        if is_ready != (source.calls() == calls) {
-            shown.push_str("not ready ")?;
-        }
-        if show(&mut shown, answer)? {
+        if push_next(&mut shown, &mut reader, source)? {
             break;
         }
     }
-    let mut again = String::new(alloc);
-    show(&mut again, reader.next(source))?;
+    let again = next(alloc, &mut reader, source)?;
     if !shown.as_str().ends_with(again.as_str()) {
         shown.push_str(" and then ")?;
         shown.push_str(again.as_str())?;
@@ -262,82 +282,113 @@ fn answers(alloc: Global, limit: u64, source: &mut MemHost) -> Result<String, Al
     Ok(shown)
 }
 
+// The answers for an input that is given in pieces of this length.
+fn answers_to(
+    alloc: Global,
+    limit: u64,
+    input: Vec<u8>,
+    piece: usize,
+) -> Result<String, AllocError> {
+    let mut source = host(alloc, input, CallList::new(alloc), piece)?;
+    answers(alloc, limit, &mut source)
+}
+
 #[test]
 fn reads_items(rt: HostRuntime) -> Result<(), Fail> {
     let alloc = rt.alloc();
     for (limit, input, want) in &CASES {
         for piece in [100_000, 1, 3] {
-            let input = Vec::from_slice(alloc, input)?;
-            let mut source = host(alloc, input, CallList::new(alloc), piece)?;
-            let got = answers(alloc, *limit, &mut source)?;
-            assert_eq!(rt; got.as_str(), *want, "in pieces of {piece}");
-        }
-    }
-    for (front, byte, count, back, want) in &LONG_CASES {
-        for piece in [1_000_000, 100_000, 65_536, 65_535, 4_096, 777] {
-            let input = long_input(alloc, front, *byte, *count, back)?;
-            let mut source = host(alloc, input, CallList::new(alloc), piece)?;
-            let got = answers(alloc, 1_000_000, &mut source)?;
+            let got = answers_to(alloc, *limit, Vec::from_slice(alloc, input)?, piece)?;
             assert_eq!(rt; got.as_str(), *want, "in pieces of {piece}");
         }
     }
     Ok(())
 }
+
+#[test]
+fn reads_long_items(rt: HostRuntime) -> Result<(), Fail> {
+    let alloc = rt.alloc();
+    for (front, byte, count, back, want) in &LONG_CASES {
+        for piece in [1_000_000, 100_000, 65_536, 65_535, 4_096, 777] {
+            let input = long_input(alloc, front, *byte, *count, back)?;
+            let got = answers_to(alloc, 1_000_000, input, piece)?;
+            assert_eq!(rt; got.as_str(), *want, "in pieces of {piece}");
+        }
+    }
+    Ok(())
+}
+
+// Adds whether the reader is ready, its next answer, and how many calls the source had by then.
+fn push_asked(
+    to: &mut String,
+    reader: &mut EntryReader,
+    source: &mut MemHost,
+) -> Result<(), AllocError> {
+    let is_ready = reader.is_ready();
+    let text = next(*to.allocator(), reader, source)?;
+    let calls = source.calls();
+    write!(to, "{is_ready} {text} {calls}\n")
+}
+
+// The same of so many answers.
+fn asked(
+    alloc: Global,
+    limit: u64,
+    mut source: MemHost,
+    times: usize,
+) -> Result<String, AllocError> {
+    let mut reader = EntryReader::new(alloc, limit);
+    let mut shown = String::new(alloc);
+    for _ in 0..times {
+        push_asked(&mut shown, &mut reader, &mut source)?;
+    }
+    Ok(shown)
+}
+
+// An item ends at its `;`: no byte behind it is asked for. A read that fails in the middle of an entry is kept.
+const NEEDED: &str = "false 1:aa@3:1;| 5\nfalse fault 8\ntrue fault 8\ntrue fault 8\n";
 
 #[test]
 fn asks_only_for_what_it_needs(rt: HostRuntime) -> Result<(), Fail> {
     let alloc = rt.alloc();
     let input = Vec::from_slice(alloc, b"aa:1;b:2;c:3;")?;
     let failing = CallList::from_vec(vec![in alloc; 7]?);
-    let mut source = host(alloc, input, failing, 1)?;
-    let mut reader = EntryReader::new(alloc, MOST_BYTES as u64);
-
-    // An item ends at its `;`: no byte behind it is asked for.
-    assert!(rt; !reader.is_ready());
-    assert!(rt; matches!(reader.next(&mut source), Ok(Item::Entry { number: 1, .. })));
-    assert_eq!(rt; source.calls(), 5);
-
-    // A read that fails in the middle of an entry is kept.
-    for _ in 0..3 {
-        assert!(rt; matches!(reader.next(&mut source), Err(InputFault::Fault)));
-        assert!(rt; reader.is_ready());
-        assert_eq!(rt; source.calls(), 8);
-    }
+    let source = host(alloc, input, failing, 1)?;
+    let got = asked(alloc, MOST_BYTES as u64, source, 4)?;
+    assert_eq!(rt; got.as_str(), NEEDED);
     Ok(())
 }
 
-#[test]
-fn asks_for_64_kib_at_once(rt: HostRuntime) -> Result<(), Fail> {
-    let alloc = rt.alloc();
+// Two entries of 65,536 bytes, given in pieces of 65,535 and 65,536 bytes.
+fn two_long_entries(alloc: Global) -> Result<MemHost, AllocError> {
     let mut input = long_input(alloc, b"a:", b'x', 65_533, b";")?;
     let second = long_input(alloc, b"b:", b'y', 65_533, b";")?;
     input.extend_from_slice(&second)?;
     let mut source = host(alloc, input, CallList::new(alloc), 1)?;
     source.give_in_pieces(Vec::from_slice(alloc, &[65_535, 65_536])?);
-    let mut reader = EntryReader::new(alloc, 1_000_000);
+    Ok(source)
+}
 
-    // All but the last byte of the first entry is begun, and the second read brings all but that of the second.
-    assert!(rt; matches!(reader.next(&mut source), Ok(Item::Entry { number: 1, .. })));
-    assert_eq!(rt; source.calls(), 2);
-    assert!(rt; matches!(reader.next(&mut source), Ok(Item::Entry { number: 2, .. })));
-    assert_eq!(rt; source.calls(), 3);
+// All but the last byte of the first entry is begun, and the second read brings all but that of the second.
+#[test]
+fn asks_for_64_kib_at_once(rt: HostRuntime) -> Result<(), Fail> {
+    let alloc = rt.alloc();
+    let source = two_long_entries(alloc)?;
+    let got = asked(alloc, 1_000_000, source, 2)?;
+    assert_eq!(rt;
+        got.as_str(),
+        "false 1:a@2:#65534| 2\nfalse 2:b@2:#65534| 3\n"
+    );
     Ok(())
 }
 
+// One read brings the text, and one says that the input has ended.
 #[test]
 fn asks_for_nothing_behind_the_end(rt: HostRuntime) -> Result<(), Fail> {
     let alloc = rt.alloc();
     let input = Vec::from_slice(alloc, b"a:1")?;
-    let mut source = host(alloc, input, CallList::new(alloc), 9)?;
-    let mut reader = EntryReader::new(alloc, 9);
-
-    // One read brings the text, and one says that the input has ended.
-    assert!(rt; matches!(reader.next(&mut source), Ok(Item::Bad { number: 1 })));
-    assert_eq!(rt; source.calls(), 2);
-    for _ in 0..2 {
-        assert!(rt; reader.is_ready());
-        assert!(rt; matches!(reader.next(&mut source), Ok(Item::End)));
-        assert_eq!(rt; source.calls(), 2);
-    }
+    let source = host(alloc, input, CallList::new(alloc), 9)?;
+    let got = asked(alloc, 9, source, 3)?;
+    assert_eq!(rt; got.as_str(), "false 1:bad| 2\ntrue end 2\ntrue end 2\n");
     Ok(())
 }

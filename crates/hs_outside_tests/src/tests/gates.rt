@@ -1,15 +1,12 @@
 // Files written by hand, and what no clause says: that the calls succeed where memory is there.
-ghost use Rattle.std.specs.Prelude.{◌≤◌, IfOk};
+ghost use Rattle.std.specs.Prelude.{◌<◌, length};
 ghost use Rattle.hs_host.specs.Files.{IsOpen};
-ghost use Rattle.hs_host.specs.Used.{Told};
-ghost use Rattle.hs_gate.specs.Gated.{IsFront};
 
-use hs_gate::{Batch, GateFault, Gated, Part};
+use crate::tests::support::{one_call, opened};
+use hs_gate::{Batch, Front, GateFault, Gated, Part};
 use hs_host::{FileKind, Host};
-use hs_memhost::{CallList, Images, MemHost};
-use hs_values::Bytes;
-use std::alloc::Global;
-use std::process::Abort;
+use hs_memhost::CallList;
+use std::alloc::{AllocError, Global};
 use std::test::Fail;
 
 // A birth byte, an open header gate, epoch 1, a group `A`, an empty group, a closed gate.
@@ -49,71 +46,86 @@ const CHANGED: &str = "\
 26 1:2@29 !2 !2 !2\n\
 27 1:2@29 !2 !2 !2\n\
 28 1:2@29 !2 !2 !2\n\
-29 1:2@29 !3 1:2@29 1:2@29";
+29 1:2@29 !3 1:2@29 1:2@29\n";
 
 // What its first bytes are read as, from none of them on.
 const CUT: &str = "\
 - - - - - - - - - - - !1 \
 !1 !1 !1 !1 !1 !1 !1 !1 !1 !2 !2 !2 \
-!2 !2 !2 !2 !2 !2 1:2@29";
-
-// A host with these bytes as its log, whose files are open.
-fn opened(alloc: Global, log: Vec<u8>, failing: CallList) -> Result<MemHost, Fail>
-    ensures { IfOk result (λ host. IsOpen (⟦<MemHost as Host>⟧.standing host)) }
-{
-    let mut files = Images::new(alloc);
-    files.log = Bytes::from_vec(log);
-    let mut host = MemHost::new(alloc, Bytes::new(alloc), files, false, failing);
-    host.mount("d")?;
-    Ok(host)
-}
+!2 !2 !2 !2 !2 !2 1:2@29 ";
 
 // What a log is read as.
-fn reading(alloc: Global, log: Vec<u8>) -> Result<String, Fail> {
+fn reading<H: Host>(alloc: Global, host: &mut H) -> Result<String, AllocError>
+    requires { IsOpen (H.standing host.old) }
+{
+    match Gated::read(alloc, host, FileKind::Log) {
+        Ok(None) => format!(in alloc; "-"),
+        Ok(Some(g)) => format!(in alloc; "{}:{}@{}", g.epoch, g.groups, g.end),
+        Err(GateFault::Broken(number)) => format!(in alloc; "!{number}"),
+        Err(fault) => format!(in alloc; "{fault:?}"),
+    }
+}
+
+// What these bytes are read as.
+fn reading_of(alloc: Global, log: Vec<u8>) -> Result<String, Fail> {
     let mut host = opened(alloc, log, CallList::new(alloc))?;
-    Ok(match Gated::read(alloc, &mut host, FileKind::Log) {
-        Ok(None) => format!(in alloc; "-")?,
-        Ok(Some(g)) => format!(in alloc; "{}:{}@{}", g.epoch, g.groups, g.end)?,
-        Err(GateFault::Broken(number)) => format!(in alloc; "!{number}")?,
-        Err(fault) => format!(in alloc; "{fault:?}")?,
-    })
+    Ok(reading(alloc, &mut host)?)
+}
+
+// Adds what the file is read as with this value at a place.
+fn show_changed(to: &mut String, place: usize, value: u8) -> Result<(), Fail> {
+    let alloc = *to.allocator();
+    let mut log = SMALL.to_vec(alloc)?;
+    if let Some(byte) = log.get_mut(place) {
+        *byte = value;
+    }
+    to.push_str(" ")?;
+    to.push_str(reading_of(alloc, log)?.as_str())?;
+    Ok(())
+}
+
+// Adds a place, and what the file is read as with each value there.
+fn show_place(to: &mut String, place: usize) -> Result<(), Fail> {
+    write!(to, "{place}")?;
+    for value in [0, 1, 7, 255] {
+        show_changed(to, place, value)?;
+    }
+    to.push_str("\n")?;
+    Ok(())
 }
 
 #[test]
 fn reads_each_changed_byte(rt: HostRuntime) -> Result<(), Fail> {
-    let alloc = rt.alloc();
-    for line in CHANGED.lines() {
-        let mut words = line.split(' ');
-        let place = words.next().ok_or("a place")?.parse::<usize>()?;
-        for (value, expected) in [0, 1, 7, 255].iter().zip(words) {
-            let mut log = SMALL.to_vec(alloc)?;
-            if let Some(byte) = log.get_mut(place) {
-                *byte = *value;
-            }
-            assert_eq!(rt;
-                reading(alloc, log)?.as_str(),
-                expected,
-                "{value} at {place}"
-            );
-        }
+    let mut shown = String::new(rt.alloc());
+    for place in 0..30 {
+        show_place(&mut shown, place)?;
     }
+    assert_eq!(rt; shown.as_str(), CHANGED);
+    Ok(())
+}
+
+// Adds what the first bytes of the file are read as.
+fn show_cut(to: &mut String, length: usize) -> Result<(), Fail> {
+    let alloc = *to.allocator();
+    let mut log = SMALL.to_vec(alloc)?;
+    log.truncate(length);
+    to.push_str(reading_of(alloc, log)?.as_str())?;
+    to.push_str(" ")?;
     Ok(())
 }
 
 #[test]
 fn reads_each_cut_file(rt: HostRuntime) -> Result<(), Fail> {
-    let alloc = rt.alloc();
-    for (length, expected) in CUT.split(' ').enumerate() {
-        let mut log = SMALL.to_vec(alloc)?;
-        log.truncate(length);
-        assert_eq!(rt; reading(alloc, log)?.as_str(), expected, "{length} bytes");
+    let mut shown = String::new(rt.alloc());
+    for length in 0..31 {
+        show_cut(&mut shown, length)?;
     }
+    assert_eq!(rt; shown.as_str(), CUT);
     Ok(())
 }
 
-#[test]
-fn reads_beyond_the_window(rt: HostRuntime) -> Result<(), Fail> {
-    let alloc = rt.alloc();
+// 9,000 empty groups, a long one, and a closed gate.
+fn many_groups(alloc: Global) -> Result<Vec<u8>, AllocError> {
     let mut log = b"\x01\x01\0\0\0\0\0\0\0\x02".to_vec(alloc)?;
     for _ in 0..9_000 {
         log.extend_from_slice(b"\x01\0\0\0\0\0\0\0\0")?;
@@ -121,51 +133,134 @@ fn reads_beyond_the_window(rt: HostRuntime) -> Result<(), Fail> {
     log.extend_from_slice(b"\x01\0\0\0\0\0\x02\0\0")?;
     log.extend_from_slice(&[1; 131_072])?;
     log.push(0)?;
-    assert_eq!(rt; reading(alloc, log)?.as_str(), "2:9001@212091");
+    Ok(log)
+}
+
+#[test]
+fn reads_beyond_the_window(rt: HostRuntime) -> Result<(), Fail> {
+    let alloc = rt.alloc();
+    let log = many_groups(alloc)?;
+    assert_eq!(rt; reading_of(alloc, log)?.as_str(), "2:9001@212091");
     Ok(())
 }
 
-// The first two groups.
-#[tactic(auto, using(hs_gate::proofs::Parts::first_place))]
-fn two_parts<H: Host>(
-    alloc: Global,
-    host: &mut H,
-    gated: &Gated,
-) -> Result<Option<(Part, Part)>, GateFault>
-    requires opened { IsOpen (H.standing host.old) }
-    requires long { 10 ≤ gated.now.end }
-    requires front { Told H.Source H.Host.own host.old → IsFront (H.files host.old) gated.now }
+const FIRST: &[u8] = b"/*C1*/\nCREATE MEMORY TABLE T(ID INTEGER,V INTEGER)\nCOMMIT\n";
+
+const SECOND: &[u8] = b"INSERT INTO T VALUES(1,10)\nCOMMIT\n";
+
+const LONG: &[u8] = &[65; 300];
+
+// Of a file that isn't born: it is made, and three groups are added, each alone.
+fn add_three<H: Host>(host: &mut H) -> Result<Gated, GateFault>
+    requires { IsOpen (H.standing host.old) }
 {
-    let Some(first) = gated.part(alloc, host, 10)? else {
+    let mut log = Gated::create(host, FileKind::Log)?;
+    log.append(host, FIRST)?;
+    log.append(host, SECOND)?;
+    log.append(host, LONG)?;
+    log.settle(host)?;
+    Ok(log)
+}
+
+// The bytes of the three groups, in parts.
+static PARTS: [&[u8]; 7] = [
+    b"\x01\x01\0\0\0\0\0\0\0\x01\x01\0\0\0\0\0\0\0\x3a",
+    FIRST,
+    b"\x01\0\0\0\0\0\0\0\x22",
+    SECOND,
+    b"\x01\0\0\0\0\0\0\x01\x2c",
+    LONG,
+    b"\0",
+];
+
+fn three_groups(alloc: Global) -> Result<Vec<u8>, AllocError> {
+    let mut log = Vec::new(alloc);
+    for part in &PARTS {
+        log.extend_from_slice(part)?;
+    }
+    Ok(log)
+}
+
+// What the log is held as then, and its bytes.
+fn three_added(alloc: Global) -> Result<(Gated, Vec<u8>), Fail> {
+    let mut host = opened(alloc, [7; 200].to_vec(alloc)?, CallList::new(alloc))?;
+    let log = add_three(&mut host)?;
+    Ok((log, host.image(FileKind::Log).to_vec(alloc)?))
+}
+
+#[test]
+fn adds_groups(rt: HostRuntime) -> Result<(), Fail> {
+    let (log, bytes) = three_added(rt.alloc())?;
+    assert!(rt; log.epoch == 1 && log.groups == 3 && log.end == 429);
+    let expected = three_groups(rt.alloc())?;
+    assert_eq!(rt; bytes.as_slice(), expected.as_slice());
+    Ok(())
+}
+
+// Whether a log is born, before it is made and behind that.
+fn births<H: Host>(host: &mut H) -> Result<(bool, bool), GateFault>
+    requires { IsOpen (H.standing host.old) }
+{
+    let before = Gated::is_born(host, FileKind::Log)?;
+    Gated::create(host, FileKind::Log)?;
+    Ok((before, Gated::is_born(host, FileKind::Log)?))
+}
+
+// The same of other bytes, and what stands there behind that.
+fn made(alloc: Global) -> Result<(bool, bool, Vec<u8>), Fail> {
+    let mut host = opened(alloc, [7; 200].to_vec(alloc)?, CallList::new(alloc))?;
+    let (before, after) = births(&mut host)?;
+    Ok((before, after, host.image(FileKind::Log).to_vec(alloc)?))
+}
+
+#[test]
+fn makes_a_file(rt: HostRuntime) -> Result<(), Fail> {
+    let (before, after, bytes) = made(rt.alloc())?;
+    assert!(rt; !before && after);
+    assert_eq!(rt; bytes.as_slice(), BORN);
+    Ok(())
+}
+
+// The groups in front of the first broken one, and the first two of them.
+#[tactic(auto, using(hs_gate::proofs::Parts::first_place))]
+fn two_parts<H: Host>(alloc: Global, host: &mut H) -> Result<Option<(Front, Part, Part)>, GateFault>
+    requires { IsOpen (H.standing host.old) }
+{
+    let Some(front) = Gated::front(alloc, host, FileKind::Log)? else {
         return Ok(None);
     };
-    let Some(second) = gated.part(alloc, host, first.next)? else {
+    let Some(first) = front.gated.part(alloc, host, 10)? else {
         return Ok(None);
     };
-    Ok(Some((first, second)))
+    let Some(second) = front.gated.part(alloc, host, first.next)? else {
+        return Ok(None);
+    };
+    Ok(Some((front, first, second)))
+}
+
+// A long group, a short one, and an open gate without a whole group.
+static BROKEN: [&[u8]; 3] = [
+    b"\x01\x01\0\0\0\0\0\0\0\x02\x01\0\0\0\0\0\0\x02\0",
+    &[65; 512],
+    b"\x01\0\0\0\0\0\0\0\x02ab\x01\0",
+];
+
+fn parts_of_broken(alloc: Global) -> Result<Option<(Front, Part, Part)>, Fail> {
+    let mut log = Vec::new(alloc);
+    for part in &BROKEN {
+        log.extend_from_slice(part)?;
+    }
+    let mut host = opened(alloc, log, CallList::new(alloc))?;
+    Ok(two_parts(alloc, &mut host)?)
 }
 
 #[test]
 fn reads_parts(rt: HostRuntime) -> Result<(), Fail> {
-    let alloc = rt.alloc();
-    let mut log = b"\x01\x01\0\0\0\0\0\0\0\x02\x01\0\0\0\0\0\0\x02\0".to_vec(alloc)?;
-    log.extend_from_slice(&[65; 512])?;
-    log.extend_from_slice(b"\x01\0\0\0\0\0\0\0\x02ab\x01\0")?;
-    let mut host = opened(alloc, log, CallList::new(alloc))?;
-    let Some(front) = Gated::front(alloc, &mut host, FileKind::Log)? else {
-        return Err("closed")?;
-    };
-    assert_eq!(rt;
-        (front.gated.groups, front.gated.end, front.is_broken),
-        (2, 542, true)
-    );
-    let Some((first, second)) = two_parts(alloc, &mut host, &front.gated)? else {
-        return Err("none")?;
-    };
+    let (front, first, second) = parts_of_broken(rt.alloc())?.ok_or("closed")?;
+    assert!(rt; front.is_broken && front.gated.groups == 2 && front.gated.end == 542);
+    assert!(rt; first.next == 531 && second.next == 542);
     assert_eq!(rt; first.payload.as_slice(), [65; 512].as_slice());
-    assert_eq!(rt; first.next, 531);
     assert_eq!(rt; second.payload.as_slice(), b"ab".as_slice());
-    assert_eq!(rt; second.next, 542);
     Ok(())
 }
 
@@ -184,73 +279,105 @@ fn start_anew<H: Host>(
     Ok(Some(Gated::start(host, gated.file, 258)?))
 }
 
+// Whether it is open then, how many calls were made, and its bytes.
+fn started(alloc: Global) -> Result<(bool, u64, Vec<u8>), Fail> {
+    let mut host = opened(alloc, SMALL.to_vec(alloc)?, CallList::new(alloc))?;
+    let is_open = start_anew(alloc, &mut host, FileKind::Log)?.is_some();
+    let bytes = host.image(FileKind::Log).to_vec(alloc)?;
+    Ok((is_open, host.calls(), bytes))
+}
+
 #[test]
 fn starts_anew(rt: HostRuntime) -> Result<(), Fail> {
-    let alloc = rt.alloc();
-    let mut host = opened(alloc, SMALL.to_vec(alloc)?, CallList::new(alloc))?;
-    assert!(rt; start_anew(alloc, &mut host, FileKind::Log)?.is_some());
-    assert_eq!(rt;
-        host.image(FileKind::Log),
-        b"\x01\x01\0\0\0\0\0\0\x01\x02\0".as_slice()
-    );
-    assert_eq!(rt; host.calls(), 13);
+    let (is_open, calls, bytes) = started(rt.alloc())?;
+    assert!(rt; is_open && calls == 13);
+    let expected = b"\x01\x01\0\0\0\0\0\0\x01\x02\0";
+    assert_eq!(rt; bytes.as_slice(), expected.as_slice());
     Ok(())
 }
 
-// Of a new file: adding this group with this call failing.
-fn append_fails(rt: &impl Abort, alloc: Global, payload: &[u8], call: u64) -> Result<(), Fail> {
-    let failing = CallList::from_vec([call].to_vec(alloc)?);
-    let mut host = opened(alloc, Vec::new(alloc), failing)?;
-    let mut log = Gated::create(&mut host, FileKind::Log)?;
-    assert_eq!(rt;
-        log.append(&mut host, payload),
-        Err(GateFault::Disk),
-        "call {call}"
-    );
-    assert_eq!(rt; (log.groups, log.end), (0, 10));
-    Ok(())
+// Makes a log, and adds a group: the answer to that, and what the log is then held as.
+fn add_one<H: Host>(
+    host: &mut H,
+    payload: &[u8],
+) -> Result<(Result<(), GateFault>, Gated), GateFault>
+    requires { IsOpen (H.standing host.old) }
+{
+    let mut log = Gated::create(host, FileKind::Log)?;
+    let answer = log.append(host, payload);
+    Ok((answer, log))
+}
+
+// Whether adding this group fails with this call, and leaves what the log is held as.
+fn append_fails(alloc: Global, payload: &[u8], call: u64) -> Result<bool, Fail> {
+    let mut host = opened(alloc, Vec::new(alloc), one_call(alloc, call)?)?;
+    let (answer, log) = add_one(&mut host, payload)?;
+    Ok(answer == Err(GateFault::Disk) && log.groups == 0 && log.end == 10)
 }
 
 #[test]
 fn each_call_of_an_append_may_fail(rt: HostRuntime) -> Result<(), Fail> {
     for call in 6..10 {
-        append_fails(&rt, rt.alloc(), b"a", call)?;
+        assert!(rt; append_fails(rt.alloc(), b"a", call)?, "call {call}");
     }
     for call in 6..12 {
-        append_fails(&rt, rt.alloc(), &[65; 300], call)?;
+        assert!(rt; append_fails(rt.alloc(), LONG, call)?, "call {call}");
     }
     Ok(())
 }
 
+// Makes a log, and adds groups at once: what it is read as again where that failed.
+fn add_together<H: Host>(
+    alloc: Global,
+    host: &mut H,
+    batch: &Batch,
+) -> Result<Option<Gated>, GateFault>
+    requires opened { IsOpen (H.standing host.old) }
+    requires some { 0 < length batch.now }
+{
+    let mut log = Gated::create(host, FileKind::Log)?;
+    if log.append_all(host, batch).is_ok() {
+        return Ok(Some(log));
+    }
+    Gated::read(alloc, host, FileKind::Log)
+}
+
 // A new file, to which three groups are added at once with this call failing: how many it has when it is read again.
 fn groups_after(alloc: Global, long: &[u8], call: u64) -> Result<u64, Fail> {
-    let failing = CallList::from_vec([call].to_vec(alloc)?);
-    let mut host = opened(alloc, Vec::new(alloc), failing)?;
-    let mut log = Gated::create(&mut host, FileKind::Log)?;
+    let mut host = opened(alloc, Vec::new(alloc), one_call(alloc, call)?)?;
     let mut batch = Batch::new(alloc);
     batch.push(b"a")?;
     batch.push(b"")?;
     batch.push(long)?;
-    if !batch.is_empty() && log.append_all(&mut host, &batch).is_ok() {
-        return Ok(log.groups);
+    if batch.is_empty() {
+        return Err("no group")?;
     }
-    match Gated::read(alloc, &mut host, FileKind::Log)? {
-        Some(again) => Ok(again.groups),
-        None => Err("closed")?,
-    }
+    let log = add_together(alloc, &mut host, &batch)?.ok_or("closed")?;
+    Ok(log.groups)
 }
+
+// The last group, the call that fails, and how many groups there are then.
+static ADDED: [(&[u8], u64, u64); 11] = [
+    (b"bc", 6, 0),
+    (b"bc", 7, 0),
+    (b"bc", 8, 0),
+    (b"bc", 9, 3),
+    (b"bc", 99, 3),
+    (LONG, 6, 0),
+    (LONG, 8, 0),
+    (LONG, 9, 0),
+    (LONG, 10, 0),
+    (LONG, 11, 3),
+    (LONG, 99, 3),
+];
 
 // The groups are written and synced, and then their gate is opened and synced.
 #[test]
 fn three_groups_are_added_or_none(rt: HostRuntime) -> Result<(), Fail> {
-    let alloc = rt.alloc();
-    for (call, expected) in [(6, 0), (7, 0), (8, 0), (9, 3), (99, 3)] {
-        assert_eq!(rt; groups_after(alloc, b"bc", call)?, expected, "call {call}");
-    }
-    for (call, expected) in [(6, 0), (8, 0), (9, 0), (10, 0), (11, 3), (99, 3)] {
+    for (long, call, expected) in &ADDED {
         assert_eq!(rt;
-            groups_after(alloc, &[65; 300], call)?,
-            expected,
+            groups_after(rt.alloc(), long, *call)?,
+            *expected,
             "call {call}"
         );
     }
@@ -262,42 +389,46 @@ const UNBORN: &[u8] = b"\0\x01\0\0\0\0\0\0\0\x01\0";
 
 const BORN: &[u8] = b"\x01\x01\0\0\0\0\0\0\0\x01\0";
 
-// Of an old file: what is left where this call of its creation fails.
-fn create_fails(
-    rt: &impl Abort,
-    alloc: Global,
-    old: &[u8],
-    call: u64,
-    left: &[u8],
-) -> Result<(), Fail> {
-    let failing = CallList::from_vec([call].to_vec(alloc)?);
-    let mut host = opened(alloc, old.to_vec(alloc)?, failing)?;
-    assert_eq!(rt;
-        Gated::create(&mut host, FileKind::Log),
-        Err(GateFault::Disk),
-        "call {call}"
-    );
-    assert_eq!(rt; host.image(FileKind::Log), left, "call {call}");
-    Ok(())
+const OLD: &[u8] = b"abcdefghijklm";
+
+// An old file, the call of its creation that fails, and what is left: a write, a cut and a sync, and then the birth byte
+// and its sync.
+static CREATED: [(&[u8], u64, &[u8]); 10] = [
+    (b"", 1, b""),
+    (OLD, 1, OLD),
+    (b"", 2, UNBORN),
+    (OLD, 2, b"\0\x01\0\0\0\0\0\0\0\x01\0lm"),
+    (b"", 3, UNBORN),
+    (OLD, 3, UNBORN),
+    (b"", 4, UNBORN),
+    (OLD, 4, UNBORN),
+    (b"", 5, BORN),
+    (OLD, 5, BORN),
+];
+
+// Whether a log can't be made, for a fault of the disk.
+fn cannot_be_made<H: Host>(host: &mut H) -> bool
+    requires { IsOpen (H.standing host.old) }
+{
+    Gated::create(host, FileKind::Log) == Err(GateFault::Disk)
 }
 
-// A write, a cut and a sync, and then the birth byte and its sync.
 #[test]
 fn each_call_of_a_creation_may_fail(rt: HostRuntime) -> Result<(), Fail> {
     let alloc = rt.alloc();
-    let old = b"abcdefghijklm";
-    create_fails(&rt, alloc, b"", 1, b"")?;
-    create_fails(&rt, alloc, old, 1, old)?;
-    create_fails(&rt, alloc, b"", 2, UNBORN)?;
-    create_fails(&rt, alloc, old, 2, b"\0\x01\0\0\0\0\0\0\0\x01\0lm")?;
-    for call in 3..5 {
-        create_fails(&rt, alloc, b"", call, UNBORN)?;
-        create_fails(&rt, alloc, old, call, UNBORN)?;
+    for (old, call, left) in &CREATED {
+        let mut host = opened(alloc, old.to_vec(alloc)?, one_call(alloc, *call)?)?;
+        assert!(rt; cannot_be_made(&mut host), "call {call}");
+        assert_eq!(rt; host.image(FileKind::Log), *left, "call {call}");
     }
-    create_fails(&rt, alloc, b"", 5, BORN)?;
-    create_fails(&rt, alloc, old, 5, BORN)?;
+    Ok(())
+}
+
+#[test]
+fn a_creation_makes_five_calls(rt: HostRuntime) -> Result<(), Fail> {
+    let alloc = rt.alloc();
     let mut host = opened(alloc, Vec::new(alloc), CallList::new(alloc))?;
-    Gated::create(&mut host, FileKind::Log)?;
+    assert!(rt; !cannot_be_made(&mut host));
     assert_eq!(rt; host.calls(), 6);
     Ok(())
 }

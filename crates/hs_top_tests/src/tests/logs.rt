@@ -107,11 +107,9 @@ fn damaged_logs(rt: HostRuntime) -> Result<(), Fail> {
     Ok(())
 }
 
-// The calls of the host in a run, by their devices: the disk, the output and the input.
+// The calls of the host in a run, by their devices: the disk, the output and the input. A log that is born and short is
+// looked at by two calls, read by two, and synced, cut and synced again, which are as many as a new one takes.
 const CALLS: &str = "DDDDDDDOIDDDDDDDDOIO";
-
-// And over a log of three commits, each of which is read before the log is synced and cut.
-const CALLS_OVER_THREE: &str = "DDDDDDDDDDOIDDDDDDDDOIO";
 
 // As many bytes as ` committed 1/` has.
 const END_BYTES: usize = 13;
@@ -188,7 +186,7 @@ fn failing_calls_over_a_torn_log(rt: HostRuntime) -> Result<(), Fail> {
     let mut log = shown(alloc, FIRST, 100_000, b"", &[])?.log;
     log.extend_from_slice(b"\0\0\0\0\0\0\0\x22INSERT INTO T")?;
     let input = b"a: INSERT INTO T VALUES (3,3);b: INSERT INTO T VALUES (4,4);";
-    each_call_fails(&rt, alloc, input, &log, 3, CALLS_OVER_THREE)
+    each_call_fails(&rt, alloc, input, &log, 3, CALLS)
 }
 
 // Files of another program: nothing is changed and nothing written.

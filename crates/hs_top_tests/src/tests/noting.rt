@@ -11,11 +11,12 @@ use std::test::Fail;
 // This many bytes of output are gathered at most, and of input a read may bring at least.
 const FULL: usize = 65_536;
 
-// A host that notes its calls, how much was written before each read, and how much the read may bring. It tells no
-// content.
+// A host that notes its calls, how much was written before each read, and how much the read may bring. From a call on it
+// wants memory for each call on the files. It tells no content.
 #[derive(Drop)]
 struct Noting {
     inner: MemHost,
+    wants_from: usize,
     calls: Vec<u8>,
     before_reads: Vec<usize>,
     read_sizes: Vec<usize>,
@@ -29,6 +30,7 @@ impl Noting {
     {
         Noting {
             inner,
+            wants_from: usize::MAX,
             calls: Vec::new(alloc),
             before_reads: Vec::new(alloc),
             read_sizes: Vec::new(alloc),
@@ -43,6 +45,17 @@ impl Noting {
             Ok(()) => Ok(()),
             Err(_) => Err(HostFault::NoMemory),
         }
+    }
+
+    // The same of a call on the files.
+    fn note_file(&mut self, call: u8) -> Result<(), HostFault>
+        ensures inner { self.new.inner ≡ self.old.inner }
+        ensures err { OnErr result (result ≡ Err HostFault.NoMemory) }
+    {
+        if self.calls.len() >= self.wants_from {
+            return Err(HostFault::NoMemory);
+        }
+        self.note(call)
     }
 }
 
@@ -126,12 +139,12 @@ impl Host for Noting {
     }
 
     fn len(&mut self, file: FileKind) -> Result<u64, HostFault> {
-        self.note(b'l')?;
+        self.note_file(b'l')?;
         self.inner.len(file)
     }
 
     fn read(&mut self, file: FileKind, at: u64, buf: &mut [u8]) -> Result<(), HostFault> {
-        self.note(b'r')?;
+        self.note_file(b'r')?;
         let len = self.inner.image(file).len() as u64;
         if at > len {
             return Err(HostFault::NoMemory);
@@ -143,7 +156,7 @@ impl Host for Noting {
     }
 
     fn write(&mut self, file: FileKind, at: u64, bytes: &[u8]) -> Result<(), HostFault> {
-        self.note(b'w')?;
+        self.note_file(b'w')?;
         if at > self.inner.image(file).len() as u64 {
             return Err(HostFault::NoMemory);
         }
@@ -151,12 +164,12 @@ impl Host for Noting {
     }
 
     fn cut(&mut self, file: FileKind, len: u64) -> Result<(), HostFault> {
-        self.note(b'c')?;
+        self.note_file(b'c')?;
         self.inner.cut(file, len)
     }
 
     fn sync(&mut self, file: FileKind) -> Result<(), HostFault> {
-        self.note(b's')?;
+        self.note_file(b's')?;
         self.inner.sync(file)
     }
 }
@@ -250,5 +263,23 @@ fn long_output_is_handed_over_in_parts(rt: HostRuntime) -> Result<(), Fail> {
     }
     // Behind the last commit, so of the answer.
     assert!(rt; parts >= 2);
+    Ok(())
+}
+
+// Where memory is wanted while the third commit is logged, before and behind its text, the replies of those before are handed
+// over, and no other.
+#[test]
+fn replies_are_handed_over_where_memory_is_wanted(rt: HostRuntime) -> Result<(), Fail> {
+    let alloc = rt.alloc();
+    let words = words(alloc, &["hsql", "demo"])?;
+    let input =
+        b"a: CREATE TABLE T (N BIGINT);a: INSERT INTO T VALUES (1);a: INSERT INTO T VALUES (2);";
+    for wants_from in [17, 18, 19, 20] {
+        let mut host = Noting::new(alloc, host(alloc, input, b"", &[])?);
+        host.wants_from = wants_from;
+        assert_eq!(rt; run(alloc, &words, &mut host), Status::NoMemory);
+        let wanted = b"opened at 0\n1 a: ok committed 1\n2 a: ok 1 row committed 2\n";
+        assert_eq!(rt; host.inner.output(), wanted.as_slice());
+    }
     Ok(())
 }

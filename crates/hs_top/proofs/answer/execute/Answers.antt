@@ -7,10 +7,10 @@ use Rattle.hs_top.specs.Database.{performed}
 use Rattle.hs_top.specs.Holding.{IsStep, IsLogging, IsHandedOver}
 use Rattle.hs_machine.specs.Lines.{printed}
 use Rattle.hs_machine.specs.Replies.{reply_lines}
-use Rattle.hs_top.specs.Machine.{logged}
+use Rattle.hs_top.specs.Machine.{WritesPrefix, logged}
 use Rattle.hs_top.specs.Running.{texts_in}
 use Rattle.hs_top.proofs.Holding.{stands_handed, output_alone, disk_alone}
-use Rattle.hs_top.proofs.Stops.{stops_for, any_ok, output_work, disk_work}
+use Rattle.hs_top.proofs.Stops.{stops_for, any_ok, err_weaker, output_work, disk_work}
 use Rattle.hs_top.specs.Stop.{OutputStops, DiskStops, WorkStops}
 use Rattle.hs_top.proofs.Queries.{query_logs}
 use Rattle.hs_top.proofs.answer.execute.Goals as goal
@@ -68,3 +68,20 @@ pub returns-in-Some-Insert-clause-stops : goal.returns-in-Some-Insert-clause-sto
 returns-in-Some-Insert-clause-stops g c =
     stops_for (DiskStops g.H.Source g.H.Host c.args.host.now c.change-in-Some-Insert.new.host) (WorkStops g.H.Source g.H.Host c.args.host.now c.change-in-Some-Insert.new.host) c.change-in-Some-Insert.result
     (λ stop. disk_work g.H.Source g.H.Host stop c.args.host.now c.args.host.now c.change-in-Some-Insert.new.host c.change-in-Some-Insert.new.host (omega arith) (omega arith)) c.change-in-Some-Insert.ensures.stops
+
+-- what is gathered where a statement stops
+pub returns-in-Some-Select-clause-left : goal.returns-in-Some-Select-clause-left
+returns-in-Some-Select-clause-left g c = λ told.
+    let is : c.args.statement ≡ Some (Select c.in-Some-Select.table) = c.in-Some-Select.is ∙ ap Some c.in-Some-Select.field-0-is in
+    err_weaker c.select.result
+    (λ front. inr (
+      query_logs c.args.log.now.last c.args.session c.args.database.now c.args.statement c.in-Some-Select.table is,
+      subst (λ (s : Option Statement). WritesPrefix (g.H.Host.written c.args.host.now) (g.H.Host.written c.select.new.host ++ c.select.new.output) (c.args.output.now ++ printed (reply_lines c.args.number c.args.name.now (performed c.args.database.now s).reply))) (sym is) front,
+    ))
+    (c.select.ensures.left told)
+
+pub returns-in-Some-Create-clause-left : goal.returns-in-Some-Create-clause-left
+returns-in-Some-Create-clause-left g c = λ told. err_weaker c.change.result (λ same. inl (same, c.change.ensures.moves.uses.written)) c.change.ensures.unsaid
+
+pub returns-in-Some-Insert-clause-left : goal.returns-in-Some-Insert-clause-left
+returns-in-Some-Insert-clause-left g c = λ told. err_weaker c.change-in-Some-Insert.result (λ same. inl (same, c.change-in-Some-Insert.ensures.moves.uses.written)) c.change-in-Some-Insert.ensures.unsaid

@@ -29,4 +29,4 @@ pub returns-clause-stands : goal.returns-clause-stands
 returns-clause-stands g c = λ n stands.
     let made = sym c.if-not-is_commit.ensures in
     subst (λ (k : ℕ). Stands g.H.Source g.H.Host c.commit.new.self k c.commit.new.host) (sym (ap (λ (b : Bool). cond b (n + 1) n) made))
-    (stands_more c.args.log.now c.commit.new.self c.args.text.now n c.args.host.now c.commit.new.host c.in_ok-commit.ensures.gated c.commit.ensures.changes.uses c.in_ok-commit.ensures.log stands)
+    (stands_more c.args.log.now c.commit.new.self n c.args.host.now c.commit.new.host c.commit.ensures.epoch (c.in_ok-commit.ensures.room n) c.commit.ensures.changes.uses c.in_ok-commit.ensures.log stands)

@@ -1,12 +1,13 @@
-use Rattle.std.proofs.Common.{◌≡◌, ◌++◌, ◌+◌, List, drop, map, ap, ◌∙◌, arith}
+use Rattle.std.proofs.Common.{◌≡◌, ◌++◌, ◌+◌, ℕ, List, drop, map, ap, ◌∙◌, arith}
 use Rattle.hs_values.specs.declared.value.Value.{Value}
 use Rattle.hs_machine.specs.Lines.{RowOf, printed_line, printed}
 use Rattle.hs_machine.specs.Replies.{rows_lines}
-use Rattle.hs_top.proofs.Prefixes.{front_on, gathered, handed}
+use Rattle.hs_top.proofs.Prefixes.{front_on, front_gathered, front_emptied, gathered, handed}
 use Rattle.hs_host.specs.Moments.{Since}
 use Rattle.hs_host.proofs.Used.{output_on}
 use Rattle.hs_top.specs.Holding.{IsHandedOver}
 use Rattle.hs_top.proofs.Holding.{told_join}
+use Rattle.hs_top.proofs.Endings.{on_err}
 use Rattle.hs_top.proofs.Rows.{rows_next}
 use Rattle.hs_top.proofs.answer.push_rows.Goals as goal
 use Rattle.hs_top.proofs.answer.push_rows.Goals.{After-flush_when_large}
@@ -15,7 +16,7 @@ use Rattle.hs_top.proofs.answer.push_rows.Goals.{After-flush_when_large}
 left : (g : _) (c : After-flush_when_large g) → g.H.Source.tells
     → g.H.Host.written c.loop-row.host ++ (c.push_row.new.self ++ printed (rows_lines c.args.number c.args.session.now (map (λ r. r.now) (drop (c.loop-row.row-index + 1) c.args.rows.now))))
     ≡ g.H.Host.written c.args.host.now ++ (c.args.output.now ++ printed (rows_lines c.args.number c.args.session.now (map (λ r. r.now) c.args.rows.now)))
-left g c told = gathered (g.H.Host.written c.loop-row.host) c.loop-row.output c.push_row.new.self _ _ _ _ (c.loop-row.invariant.so_far told) (c.in_ok-push_row.ensures ∙ ap (λ (r : List Value). c.loop-row.output ++ printed_line (RowOf c.args.number c.args.session.now r)) c.as_slice.ensures)
+left g c told = gathered (g.H.Host.written c.loop-row.host) c.loop-row.output c.push_row.new.self _ _ _ _ (c.loop-row.invariant.so_far told) (c.in_ok-push_row.ensures.ok ∙ ap (λ (r : List Value). c.loop-row.output ++ printed_line (RowOf c.args.number c.args.session.now r)) c.as_slice.ensures)
     (rows_next (λ r. r.now) c.args.rows.now c.loop-row.row-index c.row-item.result c.args.number c.args.session.now c.loop-row-test.true c.row-item.is)
 
 pub returns-in_err-flush_when_large-clause-front : goal.returns-in_err-flush_when_large-clause-front
@@ -31,6 +32,20 @@ on g c told =
 
 pub returns-in_err-flush_when_large-clause-moments : goal.returns-in_err-flush_when_large-clause-moments
 returns-in_err-flush_when_large-clause-moments g c = on g (goal.at.returns-in_err-flush_when_large-clause-moments g c).After-flush_when_large
+
+-- what is gathered yet, where memory is wanted for the row's line
+pub returns-in_err-push_row-clause-left : goal.returns-in_err-push_row-clause-left
+returns-in_err-push_row-clause-left g c = λ told.
+    let rest = printed (rows_lines c.args.number c.args.session.now (map (λ r. r.now) (drop c.loop-row.row-index c.args.rows.now))) in
+    on_err c.from_residual.result
+    (front_gathered (g.H.Host.written c.args.host.now) (g.H.Host.written c.loop-row.host) c.push_row.new.self rest _
+    (ap (λ (l : List ℕ). g.H.Host.written c.loop-row.host ++ (l ++ rest)) c.in_err-push_row.ensures.err ∙ c.loop-row.invariant.so_far told) (c.loop-row.invariant.grown told))
+
+pub returns-in_err-flush_when_large-clause-left : goal.returns-in_err-flush_when_large-clause-left
+returns-in_err-flush_when_large-clause-left g c = λ told.
+    on_err c.from_residual-in_err-flush_when_large.result
+    (front_emptied (g.H.Host.written c.args.host.now) (g.H.Host.written c.flush_when_large.new.host) c.flush_when_large.new.output _ c.in_err-flush_when_large.ensures.empty
+    (front_on (g.H.Host.written c.args.host.now) (g.H.Host.written c.loop-row.host) _ c.push_row.new.self _ _ (left g (goal.at.returns-in_err-flush_when_large-clause-left g c).After-flush_when_large told) (c.loop-row.invariant.grown told) (c.flush_when_large.ensures.front told)))
 
 pub loop-row-preserved : goal.loop-row-preserved
 loop-row-preserved g c = record {

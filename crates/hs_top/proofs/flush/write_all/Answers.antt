@@ -32,5 +32,6 @@ loop-rest-preserved g c =
       so_far = λ told. grind (arith, common_steps, i.so_far told, added told);
       grown = λ told. omega (arith, i.grown told, ap length (added told), length-append (g.H.Host.written c.loop-rest.host) (take c.in-Ok.count c.loop-rest.rest.now));
       moments = on g (goal.at.loop-rest-preserved g c).After-tell;
+      calm = c.in-Ok.ensures.cause.some (λ zero. absurd (omega (arith, c.if-count-eq0.false, zero))) ∙ i.calm;
       uses = output_on i.uses c.tell.ensures.uses;
     }

@@ -11,6 +11,7 @@ invariant-loop-rest g l =
       so_far : g.H.Source.tells → written l.host ++ l.rest ≡ written l.fn.host ++ l.bytes;
       grown : g.H.Source.tells → length (written l.fn.host) ≤ length (written l.host);
       moments : g.H.Source.tells → Since (IsHandedOver (g.H.Host.history l.fn.host).now l.bytes) (g.H.Host.history l.fn.host) (g.H.Host.history l.host);
+      calm : g.H.Host.output_faults l.host ≡ g.H.Host.output_faults l.fn.host;
       uses : UsesOutput g.H.Source g.H.Host l.fn.host l.host;
     }
 

@@ -1,37 +1,26 @@
-use Rattle.std.proofs.Common.{◌≡◌, ℕ, true, false, List, inl, refl, sym, ap, ◌∙◌}
-use Rattle.hs_host.specs.Files.{Five}
-use Rattle.hs_gate.specs.Groups.{is_born}
-use Rattle.hs_host.specs.declared.file_kind.FileKind.TheVariants.{Log}
 use Rattle.hs_host.proofs.Used.{told_on}
-use Rattle.hs_top.proofs.Endings.{on_err}
-use Rattle.hs_top.proofs.Alone.{alone_reads, alone_moves, moves_alone_on}
-use Rattle.hs_top.proofs.Openings.{opening_on, unborn_opening}
+use Rattle.hs_log.specs.LogReading.{IsBegun}
+use Rattle.hs_top.proofs.Alone.{alone_opens, moves_alone_on}
+use Rattle.hs_top.proofs.Openings.{opening_on, opening_found}
 use Rattle.hs_top.proofs.opening.open_log.Goals as goal
 
-pub returns-then-branch-clause-moments : goal.returns-then-branch-clause-moments
-returns-then-branch-clause-moments g c = λ told quiet.
-    opening_on (g.H.Host.files c.args.host.now) (g.H.Host.files c.is_born.new.host) (c.is_born.ensures.reads.files told) quiet (c.is_born.ensures.reads.moments told) (c.read_log.ensures.moments (told_on c.is_born.ensures.reads.uses told))
+pub returns-in_err-log-clause-moments : goal.returns-in_err-log-clause-moments
+returns-in_err-log-clause-moments g c = λ told quiet. opening_found (g.H.Host.files c.args.host.now) quiet (c.open.ensures.moves.moments told)
 
-pub returns-else-branch-clause-moments : goal.returns-else-branch-clause-moments
-returns-else-branch-clause-moments g c = λ told quiet.
-    unborn_opening (g.H.Host.files c.args.host.now) (sym (c.in_ok-is_born.ensures.born told) ∙ c.if-branch.false) quiet (c.is_born.ensures.reads.moments told) (c.new_log.ensures.changes.moments (told_on c.is_born.ensures.reads.uses told))
+pub returns-in_err-log-clause-moves : goal.returns-in_err-log-clause-moves
+returns-in_err-log-clause-moves g c = alone_opens c.open.ensures.moves
 
-pub returns-in_err-is_born-clause-begun : goal.returns-in_err-is_born-clause-begun
-returns-in_err-is_born-clause-begun g c = λ told unborn. on_err _ (inl (ap (λ (f : Five (List ℕ)). is_born f.log) (c.is_born.ensures.reads.files told) ∙ unborn))
+pub returns-in-New-clause-moments : goal.returns-in-New-clause-moments
+returns-in-New-clause-moments g c = λ told quiet. opening_found (g.H.Host.files c.args.host.now) quiet (c.open.ensures.moves.moments told)
 
-pub returns-then-branch-clause-begun : goal.returns-then-branch-clause-begun
-returns-then-branch-clause-begun g c = λ told unborn.
-    absurd (let e : true ≡ false = sym c.if-branch.true ∙ (c.in_ok-is_born.ensures.born told ∙ unborn) in cc)
+pub returns-in-New-clause-moves : goal.returns-in-New-clause-moves
+returns-in-New-clause-moves g c = alone_opens c.open.ensures.moves
 
-pub returns-else-branch-clause-begun : goal.returns-else-branch-clause-begun
-returns-else-branch-clause-begun g c = λ told unborn.
-    c.new_log.ensures.begun (told_on c.is_born.ensures.reads.uses told) (ap (λ (f : Five (List ℕ)). is_born f.log) (c.is_born.ensures.reads.files told) ∙ unborn)
+pub returns-in-Born-clause-moments : goal.returns-in-Born-clause-moments
+returns-in-Born-clause-moments g c = λ told quiet.
+    let begun : IsBegun g.H.Source g.H.Host c.args.host.now c.open.new.host c.in-Born.reader = rw c.in-Born.is at c.in_ok-log.ensures.opens in
+    let reads = begun.reads in
+    opening_on (g.H.Host.files c.args.host.now) (g.H.Host.files c.open.new.host) (reads.files told) quiet (reads.moments told) (c.read_log.ensures.moments (told_on reads.uses told))
 
-pub returns-in_err-is_born-clause-moves : goal.returns-in_err-is_born-clause-moves
-returns-in_err-is_born-clause-moves g c = alone_reads c.is_born.ensures.reads
-
-pub returns-then-branch-clause-moves : goal.returns-then-branch-clause-moves
-returns-then-branch-clause-moves g c = moves_alone_on (alone_reads c.is_born.ensures.reads) c.read_log.ensures.moves
-
-pub returns-else-branch-clause-moves : goal.returns-else-branch-clause-moves
-returns-else-branch-clause-moves g c = moves_alone_on (alone_reads c.is_born.ensures.reads) (alone_moves Log refl c.new_log.ensures.changes)
+pub returns-in-Born-clause-moves : goal.returns-in-Born-clause-moves
+returns-in-Born-clause-moves g c = moves_alone_on (alone_opens c.open.ensures.moves) c.read_log.ensures.moves

@@ -1,79 +1,63 @@
-use Rattle.std.proofs.Common.{◌≡◌, List, ℕ, Ok, Err, sym, ap, subst, ◌∙◌}
-use Rattle.hs_host.specs.Files.{Five}
-use Rattle.hs_host.specs.Used.{ReadsFiles}
-use Rattle.hs_host.proofs.Used.{told_on, reads_on}
+use Rattle.std.proofs.Common.{◌≡◌, List, ℕ, Option, Ok, Err, refl, sym, ap, ◌∙◌}
+use Rattle.hs_host.specs.declared.file_kind.FileKind.TheVariants.{Log}
+use Rattle.hs_host.specs.Used.{Told}
+use Rattle.hs_host.proofs.Used.{told_on}
+use Rattle.hs_log.specs.Log.{is_broken}
 use Rattle.hs_top.specs.declared.stop.Stop.TheVariants.{Damaged}
-use Rattle.hs_top.specs.Opening.{replayed, nothing_logged, opened_by}
-use Rattle.hs_top.specs.Running.{texts_in}
+use Rattle.hs_top.specs.Opening.{Opened, given, opened_of, state_by}
 use Rattle.hs_top.proofs.Alone.{alone_reads, alone_moves, moves_alone_on}
 use Rattle.hs_top.proofs.Openings.{still_opening, settle_opening}
-use Rattle.hs_top.proofs.Replayed.{damage_is, undamaged}
+use Rattle.hs_top.proofs.Replayed.{opened_is}
 use Rattle.hs_top.proofs.opening.read_log.Goals as goal
-use Rattle.hs_top.proofs.opening.read_log.Goals.{After-replay}
+use Rattle.hs_top.proofs.opening.read_log.Goals.{After-settle}
 
--- the log was only read until then
-reads : (g : _) (c : After-replay g) → ReadsFiles g.H.Source g.H.Host c.args.host.now c.replay.new.host
-reads g c = reads_on c.front.ensures.reads c.replay.ensures.reads
+-- what the log gives
+gives : (g : _) (c : After-settle g) → Told g.H.Source g.H.Host c.args.host.now → opened_of (g.H.Host.files c.args.host.now).log ≡ Ok (state_by c.in-Ok.replay)
+gives g c told =
+    let log = (g.H.Host.files c.args.host.now).log in
+    opened_is log (c.requires.reading.born told) (c.requires.header told)
+    ∙ ap (λ (ts : List (List ℕ)). given (is_broken log) ts) (sym (c.requires.texts told))
+    ∙ c.in-Ok.ensures.made told
 
 pub returns-in-Err-clause-damaged : goal.returns-in-Err-clause-damaged
 returns-in-Err-clause-damaged g c = λ told number is.
-    let after = told_on c.front.ensures.reads.uses told in
+    let log = (g.H.Host.files c.args.host.now).log in
     let stop : c.in-Err.stop ≡ Damaged number = cc in
-    damage_is (g.H.Host.files c.args.host.now).log c.in-Some.front number (c.requires.born told) (sym c.in-Some.is ∙ c.in_ok-front.ensures.reading told) c.if-front-ne1.false
-    (subst (λ (f : Five (List ℕ)). replayed nothing_logged (texts_in f) ≡ Err number) (c.front.ensures.reads.files told) (c.in-Err.ensures.damaged after number (ap Err stop)))
-
-pub returns-in_err-settle-clause-kept : goal.returns-in_err-settle-clause-kept
-returns-in_err-settle-clause-kept g c = λ told number is.
-    let after = told_on c.front.ensures.reads.uses told in
-    absurd
-    (undamaged (g.H.Host.files c.args.host.now).log c.in-Some.front (opened_by c.in-Ok.opening) number (c.requires.born told) (sym c.in-Some.is ∙ c.in_ok-front.ensures.reading told) c.if-front-ne1.false c.if-front.false
-    (subst (λ (f : Five (List ℕ)). replayed nothing_logged (texts_in f) ≡ Ok (opened_by c.in-Ok.opening)) (c.front.ensures.reads.files told) (c.in-Ok.ensures.opened after)) is)
+    opened_is log (c.requires.reading.born told) (c.requires.header told)
+    ∙ ap (λ (ts : List (List ℕ)). given (is_broken log) ts) (sym (c.requires.texts told))
+    ∙ c.in-Err.ensures.damaged told number (ap Err stop)
 
 pub returns-in-Err-clause-moments : goal.returns-in-Err-clause-moments
-returns-in-Err-clause-moments g c = λ told quiet. still_opening _ quiet ((reads g (goal.at.returns-in-Err-clause-moments g c).After-replay).moments told)
+returns-in-Err-clause-moments g c = λ told quiet. still_opening _ quiet (c.redo_all.ensures.reads.moments told)
 
-pub returns-then-front-clause-moments : goal.returns-then-front-clause-moments
-returns-then-front-clause-moments g c = λ told quiet. still_opening _ quiet ((reads g (goal.at.returns-then-front-clause-moments g c).After-replay).moments told)
+pub returns-in-Err-clause-moves : goal.returns-in-Err-clause-moves
+returns-in-Err-clause-moves g c = alone_reads c.redo_all.ensures.reads
 
-pub returns-in_err-settle-clause-moments : goal.returns-in_err-settle-clause-moments
-returns-in_err-settle-clause-moments g c = λ told quiet.
-    let r = reads g (goal.at.returns-in_err-settle-clause-moments g c).After-replay in
-    settle_opening (g.H.Host.files c.args.host.now) (g.H.Host.files c.replay.new.host) c.in-Some.front (r.files told)
-    (sym c.in-Some.is ∙ c.in_ok-front.ensures.reading told) c.if-front.false quiet (r.moments told) (c.settle.ensures.changes.moments (told_on r.uses told))
+pub returns-in_err-log-clause-kept : goal.returns-in_err-log-clause-kept
+returns-in_err-log-clause-kept g c = λ told number is.
+    absurd (let e : Ok (state_by c.in-Ok.replay) ≡ Err number = sym (gives g (goal.at.returns-in_err-log-clause-kept g c).After-settle told) ∙ is in cc)
+
+pub returns-in_err-log-clause-moments : goal.returns-in_err-log-clause-moments
+returns-in_err-log-clause-moments g c = λ told quiet.
+    settle_opening (g.H.Host.files c.args.host.now) (g.H.Host.files c.redo_all.new.host) (c.redo_all.ensures.reads.files told) quiet (c.redo_all.ensures.reads.moments told)
+    (c.settle.ensures.changes.moments (told_on c.redo_all.ensures.reads.uses told))
+
+pub returns-in_err-log-clause-moves : goal.returns-in_err-log-clause-moves
+returns-in_err-log-clause-moves g c = moves_alone_on (alone_reads c.redo_all.ensures.reads) (alone_moves Log refl c.settle.ensures.changes)
+
+pub returns-clause-opened : goal.returns-clause-opened
+returns-clause-opened g c = λ told.
+    gives g (goal.at.returns-clause-opened g c).After-settle told
+    ∙ ap (λ (l : Option ℕ). let o : Opened = record { last = l; database = c.in-Ok.replay.database } in Ok o) (sym c.in_ok-log.ensures.last)
+
+pub returns-clause-kept : goal.returns-clause-kept
+returns-clause-kept g c = λ told number is.
+    absurd (let e : Ok (state_by c.in-Ok.replay) ≡ Err number = sym (gives g (goal.at.returns-clause-kept g c).After-settle told) ∙ is in cc)
 
 pub returns-clause-moments : goal.returns-clause-moments
 returns-clause-moments g c = λ told quiet.
-    let r = reads g (goal.at.returns-clause-moments g c).After-replay in
-    settle_opening (g.H.Host.files c.args.host.now) (g.H.Host.files c.replay.new.host) c.in-Some.front (r.files told)
-    (sym c.in-Some.is ∙ c.in_ok-front.ensures.reading told) c.if-front.false quiet (r.moments told) (c.settle.ensures.changes.moments (told_on r.uses told))
-
-pub returns-in-Err-clause-moves : goal.returns-in-Err-clause-moves
-returns-in-Err-clause-moves g c = alone_reads (reads g (goal.at.returns-in-Err-clause-moves g c).After-replay)
-
-pub returns-then-front-clause-moves : goal.returns-then-front-clause-moves
-returns-then-front-clause-moves g c = alone_reads (reads g (goal.at.returns-then-front-clause-moves g c).After-replay)
-
-pub returns-in_err-settle-clause-moves : goal.returns-in_err-settle-clause-moves
-returns-in_err-settle-clause-moves g c =
-    let file = rw c.in-Some.is at c.in_ok-front.ensures.file in
-    moves_alone_on (alone_reads (reads g (goal.at.returns-in_err-settle-clause-moves g c).After-replay)) (alone_moves c.in-Some.front.gated.file file c.settle.ensures.changes)
+    settle_opening (g.H.Host.files c.args.host.now) (g.H.Host.files c.redo_all.new.host) (c.redo_all.ensures.reads.files told) quiet (c.redo_all.ensures.reads.moments told)
+    (c.settle.ensures.changes.moments (told_on c.redo_all.ensures.reads.uses told))
 
 pub returns-clause-moves : goal.returns-clause-moves
-returns-clause-moves g c =
-    let file = rw c.in-Some.is at c.in_ok-front.ensures.file in
-    moves_alone_on (alone_reads (reads g (goal.at.returns-clause-moves g c).After-replay)) (alone_moves c.in-Some.front.gated.file file c.settle.ensures.changes)
-
-pub returns-in_err-front-clause-moves : goal.returns-in_err-front-clause-moves
-returns-in_err-front-clause-moves g c = alone_reads c.front.ensures.reads
-
-pub returns-in_default-clause-moments : goal.returns-in_default-clause-moments
-returns-in_default-clause-moments g c = λ told quiet. still_opening _ quiet (c.front.ensures.reads.moments told)
-
-pub returns-in_default-clause-moves : goal.returns-in_default-clause-moves
-returns-in_default-clause-moves g c = alone_reads c.front.ensures.reads
-
-pub returns-then-front-ne1-clause-moments : goal.returns-then-front-ne1-clause-moments
-returns-then-front-ne1-clause-moments g c = λ told quiet. still_opening _ quiet (c.front.ensures.reads.moments told)
-
-pub returns-then-front-ne1-clause-moves : goal.returns-then-front-ne1-clause-moves
-returns-then-front-ne1-clause-moves g c = alone_reads c.front.ensures.reads
+returns-clause-moves g c = moves_alone_on (alone_reads c.redo_all.ensures.reads) (alone_moves Log refl c.settle.ensures.changes)

@@ -29,7 +29,7 @@ returns-in_err-push_opened-clause-front g c = λ told. nothing_yet _ _
 
 -- the first line is gathered, nothing is read, and there is no session
 first_line : (g : _) (c : After-new-2 g) → c.push_opened.new.self ≡ printed_line (OpenedAt c.args.opening.database.commits)
-first_line g c = c.in_ok-push_opened.ensures ∙ ap (λ (l : List ℕ). l ++ printed_line (OpenedAt c.args.opening.database.commits)) c.new-output.ensures
+first_line g c = c.in_ok-push_opened.ensures.ok ∙ ap (λ (l : List ℕ). l ++ printed_line (OpenedAt c.args.opening.database.commits)) c.new-output.ensures
 
 -- the first line is handed over before anything else
 first_written : (g : _) (c : After-new-2 g) → g.H.Source.tells → g.H.Host.written c.flush.new.host ≡ g.H.Host.written c.args.host.now ++ printed_line (OpenedAt c.args.opening.database.commits)
@@ -48,9 +48,9 @@ first_whole g c = fresh_whole c.new.result _ (2 ^ 30) c.new.ensures.ended c.new.
 first_moments : (g : _) (c : After-flush g) → Told g.H.Source g.H.Host c.args.host.now
     → Since (IsHeld (length (texts_in (g.H.Host.files c.args.host.now))) (texts_in (g.H.Host.files c.args.host.now) ++ texts_from (opened_by c.args.opening) (g.H.Source.unread c.args.host.now)) (g.H.Host.written c.args.host.now)) (g.H.Host.history c.args.host.now) (g.H.Host.history c.flush.new.host)
 first_moments g c told =
-    let line = c.in_ok-push_opened.ensures ∙ ap (λ (l : List ℕ). l ++ printed_line (OpenedAt c.args.opening.database.commits)) c.new-output.ensures in
+    let line = c.in_ok-push_opened.ensures.ok ∙ ap (λ (l : List ℕ). l ++ printed_line (OpenedAt c.args.opening.database.commits)) c.new-output.ensures in
     since_weaker (c.flush.ensures.moments told.tells)
-    (λ m handing. held_first (g.H.Host.files c.args.host.now) (g.H.Host.history c.args.host.now) c.args.opening.log.gated (c.requires.stands.log told) c.requires.stands.epoch (g.H.Host.written c.args.host.now) c.args.opening.database.commits
+    (λ m handing. held_first (g.H.Host.files c.args.host.now) (g.H.Host.history c.args.host.now) c.args.opening.log (c.requires.stands.log told) c.requires.stands.epoch (g.H.Host.written c.args.host.now) c.args.opening.database.commits
     (texts_from (opened_by c.args.opening) (g.H.Source.unread c.args.host.now)) m (g.met.H.Host.output_now c.args.host.now told.tells) (subst (λ (l : List ℕ). IsHandedOver (g.H.Host.history c.args.host.now).now l m) line handing))
 
 pub returns-in_err-flush-clause-moments : goal.returns-in_err-flush-clause-moments
@@ -64,7 +64,7 @@ returns-in_err-flush-clause-uses g c = output_all c.flush.ensures.uses
 
 pub returns-in_err-flush-clause-front : goal.returns-in_err-flush-clause-front
 returns-in_err-flush-clause-front g c = λ told.
-    let line = c.in_ok-push_opened.ensures ∙ ap (λ (l : List ℕ). l ++ printed_line (OpenedAt c.args.opening.database.commits)) c.new-output.ensures in
+    let line = c.in_ok-push_opened.ensures.ok ∙ ap (λ (l : List ℕ). l ++ printed_line (OpenedAt c.args.opening.database.commits)) c.new-output.ensures in
     front_behind _ _ _ _ (subst (WritesPrefix (g.H.Host.written c.args.host.now) (g.H.Host.written c.flush.new.host)) line (c.flush.ensures.front told))
 
 pub loop-running-init : goal.loop-running-init
@@ -120,7 +120,7 @@ whole g c told =
     ended (g.H.Host.written c.turn.new.host) c.turn.new.self.output c.push_closed.new.self (rest_of (machine_of c.turn.new.self (g.H.Source.unread c.turn.new.host))) _ _
     (c.in_ok-turn.ensures.goes_on.lines told ∙ c.loop-running.invariant.so_far told)
     (rest_of-over _ (state_of c.turn.new.self.work) (over g c))
-    c.in_ok-push_closed.ensures
+    c.in_ok-push_closed.ensures.ok
 
 front_of_whole : (g : _) (c : After-flush-2 g) → g.H.Source.tells
     → WritesPrefix (g.H.Host.written c.args.host.now) (g.H.Host.written c.flush-2.new.host) (transcript (begun_with (opened_by c.args.opening)) (g.H.Source.unread c.args.host.now))
@@ -155,7 +155,7 @@ returns-clause-log g c = λ told.
     let none = texts_of-over _ (state_of c.turn.new.self.work) (over g at) in
     let all = sym (append-nil (texts_in (g.H.Host.files c.turn.new.host))) ∙ sym (ap (λ (l : List (List ℕ)). texts_in (g.H.Host.files c.turn.new.host) ++ l) none)
     ∙ ok.goes_on.texts still ∙ i.texts told in
-    let at_turn = subst (IsWholeLog (g.H.Host.files c.turn.new.host).log) all (whole_log (g.H.Host.files c.turn.new.host) (g.H.Host.history c.turn.new.host) c.turn.new.self.work.log.gated (ok.sane.stands.log after) ok.sane.stands.epoch) in
+    let at_turn = subst (IsWholeLog (g.H.Host.files c.turn.new.host).log) all (whole_log (g.H.Host.files c.turn.new.host) (g.H.Host.history c.turn.new.host) c.turn.new.self.work.log (ok.sane.stands.log after) ok.sane.stands.epoch) in
     subst (λ (f : Five (List ℕ)). IsWholeLog f.log (texts_in (g.H.Host.files c.args.host.now) ++ texts_from (opened_by c.args.opening) (g.H.Source.unread c.args.host.now))) (sym c.flush-2.ensures.uses.files) at_turn
 
 -- the moments of one turn more
@@ -186,11 +186,11 @@ ended_moments g c told =
     let texts : texts_in files ++ [] ≡ texts_in (g.H.Host.files c.args.host.now) ++ texts_from (opened_by c.args.opening) (g.H.Source.unread c.args.host.now) =
     sym (ap (λ (l : List (List ℕ)). texts_in files ++ l) none) ∙ ok.goes_on.texts still ∙ i.texts told in
     let out = sym (g.met.H.Host.output_now c.turn.new.host told.tells) in
-    let all = subst (λ (o : List ℕ). IsGathered before o c.push_closed.new.self work.database.commits) out (last_gathered before _ c.turn.new.self.output c.push_closed.new.self work.database.commits work.database.commits c.in_ok-push_closed.ensures t.gathered) in
+    let all = subst (λ (o : List ℕ). IsGathered before o c.push_closed.new.self work.database.commits) out (last_gathered before _ c.turn.new.self.output c.push_closed.new.self work.database.commits work.database.commits c.in_ok-push_closed.ensures.ok t.gathered) in
     since_join (turned g (goal.at.After-flush-2 g c).After-turn told)
     (since_weaker (c.flush-2.ensures.moments told.tells)
     (λ m telling. subst (λ (ts : List (List ℕ)). IsHeld least ts before m) texts
-    (held_telling files (g.H.Host.history c.turn.new.host) work.log.gated (ok.sane.stands.log after) ok.sane.stands.epoch least before work.database.commits t.enough t.counted c.push_closed.new.self [] m all telling)))
+    (held_telling files (g.H.Host.history c.turn.new.host) work.log (ok.sane.stands.log after) ok.sane.stands.epoch least before work.database.commits t.enough t.counted c.push_closed.new.self [] m all telling)))
 
 -- what is touched until then
 turned_alone : (g : _) (c : After-turn g) → Told g.H.Source g.H.Host c.args.host.now → Since (IsLater (g.H.Host.history c.args.host.now).now) (g.H.Host.history c.args.host.now) (g.H.Host.history c.turn.new.host)

@@ -1,7 +1,8 @@
-use Rattle.std.proofs.Common.{◌≡◌, ℕ, List, Some, None, sym, ◌∙◌, ap}
+use Rattle.std.proofs.Common.{nat_eq, sym, ◌∙◌, ap}
 use Rattle.std.specs.Option.{option_copied_mut}
-use Rattle.std.specs.Map.{lookup}
-use Rattle.hs_cache.specs.Held.{Held, changed, cleaned, with_page}
+use Rattle.std.specs.Map.{set_value}
+use Rattle.hs_cache.specs.declared.frames.Frame.{Frame}
+use Rattle.hs_cache.specs.Held.{Held, changed, with_page}
 use Rattle.hs_cache.proofs.Entries.{changed_is, changed_none}
 use Rattle.hs_cache.proofs.frames.Frames.set.Goals as goal
 use Rattle.hs_cache.proofs.frames.Frames.set.Goals.{in-Some, in_default}
@@ -10,7 +11,7 @@ pub returns-clause-pages : goal.returns-clause-pages
 returns-clause-pages c = elim c.match-peek_mut.branch [
   | in-Some w ↦
       let found = sym c.peek_mut.follows ∙ ap option_copied_mut w.in-Some.is in
-      ap (λ i. i.cache.entries) w.self-inside-is ∙ changed_is c.args.p.0 (with_page c.args.page) _ _ found ∙ ap (λ (held : Held). changed c.args.p.0 (with_page c.args.page) held.pages) c.self.view_is
+      ap (λ i. i.cache.entries) w.self-inside-is ∙ ap (λ (x : Frame). set_value (nat_eq c.args.p.0) c.self.inside.cache.entries x) w.set.ensures ∙ changed_is c.args.p.0 (with_page c.args.page) _ _ found ∙ ap (λ (held : Held). changed c.args.p.0 (with_page c.args.page) held.pages) c.self.view_is
   | in_default w ↦
       let found = sym c.peek_mut.follows ∙ ap option_copied_mut w.in_default.is in
       ap (λ i. i.cache.entries) w.self-inside-is ∙ changed_none c.args.p.0 (with_page c.args.page) _ found ∙ ap (λ (held : Held). changed c.args.p.0 (with_page c.args.page) held.pages) c.self.view_is

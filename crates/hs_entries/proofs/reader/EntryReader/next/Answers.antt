@@ -1,9 +1,9 @@
-use Rattle.std.proofs.Common.{rules, ◌≡◌, ◌∙◌, ◌+◌, ◌++◌, ℕ, List, [], false, true, None, is_some, ◌||◌, if◌then◌else◌, length, refl, ap, arith}
+use Rattle.std.proofs.Common.{rules, ◌≡◌, ◌∙◌, ◌++◌, ℕ, List, [], false, true, None, is_some, if◌then◌else◌, length, refl, ap, arith}
 use Rattle.hs_entries.specs.declared.reader.EntryReader.{EntryReader}
 use Rattle.hs_entries.specs.declared.place.Place.TheVariants.{Between}
 use Rattle.hs_entries.specs.Items.{items_from, cut_items}
 use Rattle.hs_entries.specs.Place.{is_entry}
-use Rattle.hs_entries.specs.Reader.{ahead, has_ended, left, left_items, left_over, rests, is_ready_with, next_number}
+use Rattle.hs_entries.specs.Reader.{ahead, has_ended, left_items, left_over, rests, is_ready_with, next_number}
 use Rattle.hs_entries.specs.Asking.{NeedsMore}
 use Rattle.hs_entries.proofs.Asking.{or_false, asks_weaker}
 use Rattle.hs_entries.proofs.reader.EntryReader.next.Goals as goal
@@ -17,16 +17,19 @@ none_left : (r : EntryReader) (rest : List ℕ) → has_ended r ≡ true → lef
 unfolding is_entry
 none_left r rest ended = ap (λ (l : List ℕ). items_from cut_items (next_number r) Between [] l) (none_over r rest ended)
 
-pub returns-then-self-clause-item : goal.returns-then-self-clause-item
-returns-then-self-clause-item g c = λ told. none_left c.args.self.now (g.S.Source.unread c.args.source.now) c.if-self.true
+pub returns-then-self-clause-items : goal.returns-then-self-clause-items
+returns-then-self-clause-items g c = λ told.
+    record {
+      first = none_left c.args.self.now (g.S.Source.unread c.args.source.now) c.if-self.true;
+      whole = λ out.
+          let none = ap (λ (l : List ℕ). length l) (none_over c.args.self.now (g.S.Source.unread c.args.source.now) c.if-self.true) in
+          absurd (omega (arith, none, out));
+      used = search rules;
+    }
 
-pub returns-then-self-clause-end : goal.returns-then-self-clause-end
-returns-then-self-clause-end g c = λ _. (c.if-self.true, c.args.self.now.rested c.if-self.true)
-
-pub returns-then-self-clause-whole : goal.returns-then-self-clause-whole
-returns-then-self-clause-whole g c = λ told out.
-    let none = ap (λ (l : List ℕ). length l) (none_over c.args.self.now (g.S.Source.unread c.args.source.now) c.if-self.true) in
-    absurd (omega (arith, none, out))
+pub returns-then-self-clause-counts : goal.returns-then-self-clause-counts
+returns-then-self-clause-counts g c =
+    record { number = search rules; shrinks = search rules; end = λ _. (c.if-self.true, c.args.self.now.rested c.if-self.true) }
 
 pub returns-in-Err-clause-needed : goal.returns-in-Err-clause-needed
 returns-in-Err-clause-needed g c =

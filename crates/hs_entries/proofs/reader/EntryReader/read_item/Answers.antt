@@ -1,4 +1,4 @@
-use Rattle.std.proofs.Common.{rules, ◌≡◌, ◌+◌, ◌++◌, ℕ, List, [], None, Ok, ap, sym, arith, true}
+use Rattle.std.proofs.Common.{rules, ◌≡◌, ◌+◌, ◌++◌, ℕ, List, [], None, ap, sym, arith, true}
 use Rattle.hs_entries.specs.declared.reader.EntryReader.{EntryReader}
 use Rattle.hs_entries.specs.declared.place.Place.TheVariants.{Between}
 use Rattle.hs_entries.specs.Asking.{Gathers}
@@ -53,6 +53,5 @@ items-preserved g c =
           (looked_so_far g.S.Source.reads c.args.self.now c.items.self c.look.new.self c.args.source.now c.items.source c.items.invariant.gathers
           c.look.ensures.count c.look.ensures.ahead c.look.ensures.room)
           (asked_none g.S.Source.reads (left_over c.look.new.self) (left_over c.read_on.new.self) c.read_on.new.self.has_ended c.in_ok-item.field-0 c.items.source c.read_on.new.source none c.in_ok-item.ensures.asked);
-      later = search rules;
-      only = search rules;
+      uses = search rules;
     }

@@ -1,4 +1,5 @@
 use Rattle.std.proofs.Common.{◌≡◌, ◌+◌, ◌-◌, ◌≤◌, true, length, false}
+use Rattle.hs_entries.specs.Calls.{UsesSource}
 use Rattle.hs_entries.specs.Left.{Continues}
 use Rattle.hs_entries.specs.Asking.{Gathers}
 use Rattle.hs_entries.specs.Reader.{left_over, next_number, room, ahead, is_at_hand}
@@ -14,8 +15,7 @@ invariant-items g l =
       goes_on : l.self.has_ended ≡ false;
       ready : is_at_hand l.fn.self ≡ true → (l.source ≡ l.fn.source) × (is_at_hand l.self ≡ true);
       gathers : Gathers g.S.Source.reads (left_over l.fn.self) (left_over l.self) l.fn.source l.source;
-      later : g.S.Source.input_faults l.fn.source ≤ g.S.Source.input_faults l.source;
-      only : g.S.Source.only_input l.fn.source l.source;
+      uses : UsesSource g.S.Source l.fn.source l.source;
     }
 
 abbrev pub decreases-items : goal.decreases-items

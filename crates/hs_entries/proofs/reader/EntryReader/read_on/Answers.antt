@@ -18,7 +18,7 @@ returns-then-branch-clause-asked g c =
     let after = c.refill.new.self in
     let needs = looked_needs (r.count + 1) r.window r.sound c.requires.looked in
     gathers_once g.S.Source.reads (left_over r) (left_over after) c.args.source.now c.refill.new.source (left_of after.window) needs c.in_ok-refill.ensures.one
-    (c.in_ok-refill.ensures.some c.if-branch.true) c.in_ok-refill.ensures.on
+    (c.in_ok-refill.ensures.refills.some c.if-branch.true) c.in_ok-refill.ensures.refills.on
 
 pub returns-clause-asked : goal.returns-clause-asked
 returns-clause-asked g c =

@@ -1,6 +1,6 @@
-use Rattle.std.proofs.Common.{rules, ◌≡◌, ◌∙◌, ◌+◌, ◌++◌, true, ℕ, [], List, length, ap, sym, arith}
+use Rattle.std.proofs.Common.{rules, ◌≡◌, ◌∙◌, ◌+◌, ◌++◌, true, ℕ, [], List, length, ap, sym, subst, arith}
 use Rattle.hs_entries.specs.Window.{ahead_of, left_of, room_of}
-use Rattle.hs_entries.specs.Left.{long}
+use Rattle.hs_entries.specs.Left.{long, IsNumbered}
 use Rattle.hs_entries.specs.Reader.{ahead, room, cut_at, left_over, left_within}
 use Rattle.hs_entries.specs.Asking.{NeedsMore}
 use Rattle.hs_entries.proofs.Asking.{empty_needs, asks_once, asks_at_most_once, gathers_on, gathers_once, gathers_then, gathers_then_asks, asked_err}
@@ -14,8 +14,8 @@ pub refill-requires-clause-looked : goal.refill-requires-clause-looked
 refill-requires-clause-looked g c =
     sym (fresh_ahead c.skim.new.self.window c.in-Nothing.ensures.fresh) ∙ (c.in-Nothing.ensures.skims []).1
 
-pub returns-then-not-branch-clause-some : goal.returns-then-not-branch-clause-some
-returns-then-not-branch-clause-some g c = λ told.
+pub returns-then-not-branch-clause-becomes : goal.returns-then-not-branch-clause-becomes
+returns-then-not-branch-clause-becomes g c = λ told.
     let from = c.args.self.now in
     let here = c.skims.self in
     let skimmed = c.skim.new.self in
@@ -27,10 +27,10 @@ returns-then-not-branch-clause-some g c = λ told.
     let fresh = c.in-Nothing.ensures.fresh in
     let place = c.in-Nothing.next in
     let n = after.count + 1 in
-    let left_over : ahead after ≡ [] = fresh_ahead after.window (read.fresh fresh) ∙ read.none c.if-not-branch.true in
-    let input : ahead after ++ unread ≡ [] = rw left_over (read.end told c.if-not-branch.true) in
+    let left_over : ahead after ≡ [] = fresh_ahead after.window (read.refills.fresh fresh) ∙ read.refills.none c.if-not-branch.true in
+    let input : ahead after ++ unread ≡ [] = rw left_over ((read.gets told).end c.if-not-branch.true) in
     let same = continues_same (skimmed.count + 1) n place long (room skimmed) (room after) (ahead skimmed ++ rest) (ahead after ++ unread)
-    (let count = read.count in omega arith) (sym (read.fresh_room fresh)) (sym (read.bytes told fresh)) in
+    (let count = read.keeps.count in omega arith) (sym (read.refills.fresh_room fresh)) (sym ((read.gets told).bytes fresh)) in
     continues_takes _ (left_at n place long (room after) (ahead after ++ unread)) _ c.cut_item.result
     (continues_trans _ _ _ (continues_trans _ _ _ (c.skims.invariant.continues told) on.0) same)
     (takes_at n (c.cut_item.new.self.count + 1) place long (ahead after ++ unread) [] (ahead c.cut_item.new.self ++ unread) [] (room after) (room c.cut_item.new.self) (room after)
@@ -71,22 +71,22 @@ skims-preserved g c =
     let read = c.in_ok-refill.ensures in
     let fresh = c.in-Nothing.ensures.fresh in
     let empty : length (ahead skimmed) ≡ 0 = ap (λ (l : List ℕ). length l) (c.in-Nothing.ensures.skims []).1 in
-    let same = read.fresh_room fresh in
-    let count = read.count in
-    let grown = read.more c.if-not-branch.false in
+    let same = read.refills.fresh_room fresh in
+    let count = read.keeps.count in
+    let grown = read.refills.more c.if-not-branch.false in
     record {
       continues = λ told.
           let on = c.in-Nothing.ensures.skims rest in
           continues_trans _ _ _ (continues_trans _ _ _ (c.skims.invariant.continues told) on.0)
-          (continues_same (skimmed.count + 1) (after.count + 1) c.in-Nothing.next _ (room skimmed) (room after) (ahead skimmed ++ rest) (ahead after ++ unread) (omega arith) (sym same) (sym (read.bytes told fresh)));
-      fresh = read.fresh fresh;
+          (continues_same (skimmed.count + 1) (after.count + 1) c.in-Nothing.next _ (room skimmed) (room after) (ahead skimmed ++ rest) (ahead after ++ unread) (omega arith) (sym same) (sym ((read.gets told).bytes fresh)));
+      fresh = read.refills.fresh fresh;
       some = omega arith;
       number = omega (arith, c.in-Nothing.ensures.count, c.in-Nothing.ensures.shrinks);
       count = omega (arith, c.in-Nothing.ensures.count);
       shrinks = omega (arith, c.in-Nothing.ensures.shrinks);
       grows = omega (arith, c.in-Nothing.ensures.uses);
       kept = search rules;
-      goes_on = read.goes_on;
+      goes_on = read.keeps.ended ∙ c.in-Nothing.ensures.goes_on;
       gathers =
           let old = left_within c.args.self.now c.args.from in
           let mid = left_within skimmed c.in-Nothing.next in
@@ -95,10 +95,32 @@ skims-preserved g c =
           let needs = empty_needs (skimmed.count + 1) c.in-Nothing.next long (room skimmed) (ahead skimmed) none in
           gathers_then g.S.Source.reads old mid (left_within after c.in-Nothing.next) c.args.source.now c.skims.source c.refill.new.source (gathers_on g.S.Source.reads old (left_within c.skims.self c.skims.place) mid c.args.source.now c.skims.source
           c.skims.invariant.gathers (λ rest. (c.in-Nothing.ensures.skims rest).0))
-          (gathers_once g.S.Source.reads mid (left_within after c.in-Nothing.next) c.skims.source c.refill.new.source bytes needs read.one (read.some c.if-not-branch.false) (λ more.
+          (gathers_once g.S.Source.reads mid (left_within after c.in-Nothing.next) c.skims.source c.refill.new.source bytes needs read.one (read.refills.some c.if-not-branch.false) (λ more.
           continues_same (skimmed.count + 1) (after.count + 1) c.in-Nothing.next long (room skimmed) (room after) (ahead skimmed ++ (bytes ++ more)) (ahead after ++ more)
           (omega arith) (sym same)
-          (ap (λ (l : List ℕ). l ++ (bytes ++ more)) none ∙ ap (λ (l : List ℕ). l ++ more) (sym (fresh_ahead after.window (read.fresh fresh))))));
-      later = search rules;
-      only = search rules;
+          (ap (λ (l : List ℕ). l ++ (bytes ++ more)) none ∙ ap (λ (l : List ℕ). l ++ more) (sym (fresh_ahead after.window (read.refills.fresh fresh))))));
+      uses = search rules;
     }
+
+pub returns-then-not-branch-clause-passes : goal.returns-then-not-branch-clause-passes
+returns-then-not-branch-clause-passes g c =
+    let from = c.args.self.now in
+    let after = c.refill.new.self in
+    let new = c.cut_item.new.self in
+    let read = c.in_ok-refill.ensures in
+    let fresh = c.in-Nothing.ensures.fresh in
+    let nothing : ahead after ≡ [] = fresh_ahead after.window (read.refills.fresh fresh) ∙ read.refills.none c.if-not-branch.true in
+    let empty : length (ahead c.skim.new.self) ≡ 0 = ap (λ (l : List ℕ). length l) (c.in-Nothing.ensures.skims []).1 in
+    let room_is : room new ≡ room after = ap room_of c.cut_item.ensures.window in
+    let same = read.refills.fresh_room fresh in
+    record {
+      number = subst (λ (k : ℕ). IsNumbered c.cut_item.result (k + 1) (new.count + 1)) (read.keeps.count ∙ c.in-Nothing.ensures.count ∙ c.skims.invariant.count) c.cut_item.ensures.number;
+      grows = omega (arith, c.in-Nothing.ensures.uses, c.skims.invariant.grows, room_is, same, empty);
+      shrinks = omega (arith, c.in-Nothing.ensures.shrinks, c.skims.invariant.shrinks, room_is, same);
+      ended = λ _. (c.cut_item.ensures.ended, ap ahead_of c.cut_item.ensures.window ∙ nothing);
+    }
+
+pub skims-smaller : goal.skims-smaller
+skims-smaller g c =
+    let empty : length (ahead c.skim.new.self) ≡ 0 = ap (λ (l : List ℕ). length l) (c.in-Nothing.ensures.skims []).1 in
+    omega (arith, c.in-Nothing.ensures.uses, c.in_ok-refill.ensures.refills.fresh_room c.in-Nothing.ensures.fresh, empty, c.skims.invariant.some)

@@ -1,4 +1,5 @@
 use Rattle.std.proofs.Common.{◌≡◌, ◌+◌, ◌^◌, ◌≤◌, ◌<◌, length, false}
+use Rattle.hs_entries.specs.Calls.{UsesSource}
 use Rattle.hs_entries.specs.Left.{Continues}
 use Rattle.hs_entries.specs.Asking.{Gathers}
 use Rattle.hs_entries.specs.Window.{IsFresh}
@@ -18,8 +19,7 @@ invariant-skims g l =
       kept : l.self.kept ≡ l.fn.self.kept;
       goes_on : l.self.has_ended ≡ false;
       gathers : Gathers g.S.Source.reads (left_within l.fn.self l.fn.from) (left_within l.self l.place) l.fn.source l.source;
-      later : g.S.Source.input_faults l.fn.source ≤ g.S.Source.input_faults l.source;
-      only : g.S.Source.only_input l.fn.source l.source;
+      uses : UsesSource g.S.Source l.fn.source l.source;
     }
 
 abbrev pub decreases-skims : goal.decreases-skims

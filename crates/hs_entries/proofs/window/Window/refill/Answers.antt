@@ -1,4 +1,4 @@
-use Rattle.std.proofs.Common.{◌≡◌, ◌≤◌, ◌+◌, ◌-◌, ℕ, List, ◌++◌, length, take, slice_range, sym, subst, arith}
+use Rattle.std.proofs.Common.{rules, ◌≡◌, ◌≤◌, ◌+◌, ◌-◌, ℕ, List, ◌++◌, length, take, slice_range, sym, subst, arith}
 use Rattle.std.proofs.lemmas.Grind.{common_steps}
 use borrow.Rule.Slice.PartMut.{post_of}
 use Rattle.std.specs.Vec.{with_items}
@@ -15,7 +15,7 @@ returns-clause-bytes g c = λ told.
     let buffer = c.deref_mut.result.now in
     let read = read_span buffer c.read_input.new.buf (post_of after.end (length buffer - after.end) buffer) (g.S.Source.unread c.args.source.now)
     (g.S.Source.unread c.read_input.new.self) after.at after.end c.in_ok-count.count at_end (omega (arith, c.deref_mut.ensures.len)) c.in_ok-count.ensures.bound.0 bytes.0 in
-    grind (arith, common_steps, read)
+    record { bytes = grind (arith, common_steps, read); end = search rules }
 
 pub returns-clause-one : goal.returns-clause-one
 returns-clause-one g c =

@@ -27,7 +27,7 @@ use Rattle.hs_top.proofs.running.Running.turn.Goals.{After-answer, After-next_it
 next : (g : _) (c : After-answer g) → g.H.Source.tells
     → left_items c.args.self.now.reader (g.H.Source.unread c.args.host.now) ≡ c.in-Ok.item ∷ left_items c.next_item.new.reader (g.H.Source.unread c.answer.new.host)
 next g c told =
-    taken c.in-Ok.item _ _ (sym c.is_end.ensures ∙ c.if-is_end.false) (c.in-Ok.ensures.item told)
+    taken c.in-Ok.item _ _ (sym c.is_end.ensures ∙ c.if-is_end.false) (c.in-Ok.ensures.items told).first
     ∙ ap (λ (u : List ℕ). c.in-Ok.item ∷ left_items c.next_item.new.reader u) (sym c.answer.ensures.uses.unread)
 
 -- and what is left goes on behind its lines
@@ -68,22 +68,22 @@ returns-clause-goes_on g c =
           turned (g.H.Host.written c.args.host.now) c.args.self.now.output (g.H.Host.written c.next_item.new.host) c.next_item.new.output (g.H.Host.written c.answer.new.host) c.answer.new.output _ _ _
           (c.in-Ok.ensures.done told) (c.in_ok-answer.ensures.done told)
           (lines_of-turn _ _ c.in-Ok.item (state_of c.args.self.now.work) (state_of c.answer.new.work)
-          (taken_whole c.in-Ok.item _ _ (c.in-Ok.ensures.whole_item told more) ∙ ap (λ (u : List ℕ). c.in-Ok.item ∷ left_whole c.next_item.new.reader u) (sym c.answer.ensures.uses.unread))
+          (taken_whole c.in-Ok.item _ _ ((c.in-Ok.ensures.items told).whole more) ∙ ap (λ (u : List ℕ). c.in-Ok.item ∷ left_whole c.next_item.new.reader u) (sym c.answer.ensures.uses.unread))
           c.in_ok-answer.ensures.state);
       texts = λ t.
           logged_on (texts_in (g.H.Host.files c.args.host.now)) (texts_in (g.H.Host.files c.next_item.new.host)) (texts_in (g.H.Host.files c.answer.new.host)) _ _ _
           (ap texts_in c.next_item.ensures.uses.files)
           (c.in_ok-answer.ensures.texts (still g (goal.at.returns-clause-goes_on g c).In-Ok t))
           (texts_of-turn _ _ c.in-Ok.item (state_of c.args.self.now.work) (state_of c.answer.new.work) (next g at t.tells) c.in_ok-answer.ensures.state);
-      count = λ told. subst (λ (u : List ℕ). KeepsRoom (left c.args.self.now.reader (g.H.Source.unread c.args.host.now)) (left c.next_item.new.reader u)) (sym c.answer.ensures.uses.unread) (c.in-Ok.ensures.count told);
+      count = λ told. subst (λ (u : List ℕ). KeepsRoom (left c.args.self.now.reader (g.H.Source.unread c.args.host.now)) (left c.next_item.new.reader u)) (sym c.answer.ensures.uses.unread) (c.in-Ok.ensures.items told).used;
     }
 
 -- at the end nothing is left, as it was before
 none_more : (g : _) (c : Then-is_end g) → g.H.Source.tells → left_items c.next_item.new.reader (g.H.Source.unread c.next_item.new.host) ≡ left_items c.args.self.now.reader (g.H.Source.unread c.args.host.now)
 none_more g c told =
     let end = sym c.is_end.ensures ∙ c.if-is_end.true in
-    let over = c.in-Ok.ensures.end (ended c.in-Ok.item end) in
-    none_left c.next_item.new.reader (g.H.Source.unread c.next_item.new.host) over.0 over.1 ∙ sym (none_before c.in-Ok.item _ _ end (c.in-Ok.ensures.item told))
+    let over = c.in-Ok.ensures.counts.end (ended c.in-Ok.item end) in
+    none_left c.next_item.new.reader (g.H.Source.unread c.next_item.new.host) over.0 over.1 ∙ sym (none_before c.in-Ok.item _ _ end (c.in-Ok.ensures.items told).first)
 
 pub returns-then-is_end-clause-goes_on : goal.returns-then-is_end-clause-goes_on
 returns-then-is_end-clause-goes_on g c =
@@ -94,11 +94,11 @@ returns-then-is_end-clause-goes_on g c =
           read_on (g.H.Host.written c.args.host.now) c.args.self.now.output (g.H.Host.written c.next_item.new.host) c.next_item.new.output _ _ (c.in-Ok.ensures.done told)
           (ap (λ (items : List Item). rest_of (machine items (state_of c.args.self.now.work))) (none_more g at told));
       within = λ told more.
-          absurd (taken_none c.in-Ok.item _ _ end (c.in-Ok.ensures.whole_item told more));
+          absurd (taken_none c.in-Ok.item _ _ end ((c.in-Ok.ensures.items told).whole more));
       texts = λ t.
           ap (λ (f : Five (List ℕ)). texts_in f ++ texts_of (machine (left_items c.next_item.new.reader (g.H.Source.unread c.next_item.new.host)) (state_of c.args.self.now.work))) c.next_item.ensures.uses.files
           ∙ ap (λ (items : List Item). texts_in (g.H.Host.files c.args.host.now) ++ texts_of (machine items (state_of c.args.self.now.work))) (none_more g at t.tells);
-      count = λ told. c.in-Ok.ensures.count told;
+      count = λ told. (c.in-Ok.ensures.items told).used;
     }
 
 pub returns-in-Err-clause-too_long : goal.returns-in-Err-clause-too_long
@@ -119,7 +119,7 @@ reading g c told least before t =
     let stands = c.requires.sane.stands in
     let out = sym (g.met.H.Host.output_now c.args.host.now told.tells) in
     since_weaker (c.next_item.ensures.moments told.tells)
-    (λ m. held_telling (g.H.Host.files c.args.host.now) (g.H.Host.history c.args.host.now) work.log.gated (stands.log told) stands.epoch least before work.database.commits t.enough t.counted
+    (λ m. held_telling (g.H.Host.files c.args.host.now) (g.H.Host.history c.args.host.now) work.log (stands.log told) stands.epoch least before work.database.commits t.enough t.counted
     c.args.self.now.output _ m (subst (λ (o : List ℕ). IsGathered before o c.args.self.now.output work.database.commits) out t.gathered))
 
 telling_read : (g : _) (c : In-Ok g) → g.H.Source.tells → (least : ℕ) (before : List ℕ) → IsAcknowledging least before (g.H.Host.files c.args.host.now) (g.H.Host.written c.args.host.now) c.args.self.now.output c.args.self.now.work.database.commits

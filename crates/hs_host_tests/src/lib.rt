@@ -1,0 +1,5 @@
+//! Hosts in memory: tests alone.
+#![tactic(auto)]
+
+#[cfg(test)]
+mod tests;

@@ -1,0 +1,4 @@
+// Hosts in memory by their public names.
+mod failing;
+mod memory;
+mod steps;

@@ -1,0 +1,13 @@
+pub mod Every
+pub mod Answered
+pub mod Meanings
+pub mod Productions1
+pub mod Productions2
+pub mod Productions3
+pub mod Productions4
+pub mod Productions5
+pub mod Productions6
+pub mod Productions7
+pub mod Promises
+pub mod Rules
+pub mod Spelled

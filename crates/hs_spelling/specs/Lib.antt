@@ -1,0 +1,4 @@
+pub mod Expressions
+pub mod Literals
+pub mod Statements
+pub mod Tokens
