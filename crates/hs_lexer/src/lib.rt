@@ -14,8 +14,6 @@ mod lengths;
 mod lexeme;
 mod meaning;
 mod scan;
-#[cfg(test)]
-mod tests;
 mod token;
 
 pub use fault::LexFault;

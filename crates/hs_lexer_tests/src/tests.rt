@@ -1,6 +1,8 @@
 // Texts, with the tokens or the fault that they must give. A line is a case, and `¦` parts the text from the answer, in which a
 // token is its kind and its places; in the text `~` stands for a line feed and `^` for a vertical tab.
-use super::{LexFault, Token, TokenKind, Tokens, between_quotes, content, name, tokens, written};
+use hs_lexer::{
+    LexFault, Token, TokenKind, Tokens, between_quotes, content, name, tokens, written,
+};
 use std::alloc::{AllocError, Global};
 use std::process::Abort;
 use std::test::Fail;
