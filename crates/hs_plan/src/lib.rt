@@ -16,8 +16,6 @@ mod operator;
 mod plan;
 mod query;
 mod reading;
-#[cfg(test)]
-mod tests;
 mod typing;
 
 pub use change::Change;

@@ -1,10 +1,10 @@
 // The rules of kinds by examples, the order of faults, and that each call can be made.
-use crate::{
+use hs_base::{RowNo, TableNo, Tables};
+use hs_plan::{
     Aggregate, Binary, BinaryOperator, BindFault, Cause, Change, Changes, Expr, FromItem, Kind,
     PlacedFault, Plan, Query, QueryBody, Select, Source, Ternary, Unary, Which, aggregate_kind,
     are_comparable, is_assignable, is_condition, kind_of_type, named_in_plan, widest,
 };
-use hs_base::{RowNo, TableNo, Tables};
 use hs_values::{Name, SqlType, Value};
 use sqlite_items::{Boxed, Items};
 use std::alloc::{AllocError, Global};

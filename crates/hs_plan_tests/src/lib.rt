@@ -1,0 +1,5 @@
+//! Bound statements, by the public calls of their crate: tests alone.
+#![tactic(auto)]
+
+#[cfg(test)]
+mod tests;
