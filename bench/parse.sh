@@ -24,8 +24,8 @@ copy=${BENCH_FOLDER:-$work/copy}
 # The parser and what it stands on, in a root of their own.
 mkdir -p "$copy/crates/bench_parse/src" "$copy/crates/bench_parse/specs" "$copy/crates/bench_parse/proofs"
 cp "$top/HANDLES" "$copy/"
-grep -v '^#' "$top/crates.txt" | grep -E '^(hs_ast|hs_grammar|hs_lexer|hs_builder|hs_syntax|hs_parser):' >"$copy/crates.txt"
-for name in hs_ast hs_grammar hs_lexer hs_builder hs_syntax hs_parser; do
+grep -v '^#' "$top/crates.txt" | grep -E '^(hs_ast|hs_grammar|hs_lexer|hs_builder|hs_builder_laws|hs_syntax|hs_parser):' >"$copy/crates.txt"
+for name in hs_ast hs_grammar hs_lexer hs_builder hs_builder_laws hs_syntax hs_parser; do
     mkdir -p "$copy/crates/$name"
     for part in src specs proofs; do
         rm -rf "$copy/crates/$name/$part"

@@ -4,7 +4,7 @@
     python3 make_effects.py          writes crates/hs_parser/proofs/RuleEffects.antt
     python3 make_effects.py --check  says whether it is what it would write, and ends with 1 if not
 
-What each mark takes and puts stands in crates/hs_builder/proofs/Effects.antt, and is written by hand. A rule takes the least with
+What each mark takes and puts stands in crates/hs_builder_laws/proofs/Effects.antt, and is written by hand. A rule takes the least with
 which none of its productions finds a part missing, and leaves the same parts whichever of them is taken, unless it leaves
 different states. Rules for which that can't be are named, and then nothing is written.
 """
@@ -123,7 +123,7 @@ def effects_file(g, typing, kinds):
         results.append(f'    ({" ∷ ".join(outcomes + ["[]"])}) ∷ -- {name}')
     head = f'''-- By rule of the grammar, what it takes from the stacks and leaves on them, made by grammar/make_effects.py.
 use Rattle.std.specs.Prelude.{{ℕ, List, [], ◌∷◌, Some, None}}
-use Rattle.hs_builder.proofs.Effects.{{{", ".join(kind for kind in kinds if kind in used)}}}
+use Rattle.hs_builder_laws.proofs.Effects.{{{", ".join(kind for kind in kinds if kind in used)}}}
 use Rattle.hs_parser.proofs.Typing.{{Outcome}}
 
 abbrev in_any : List ℕ → Outcome
@@ -142,7 +142,7 @@ needs =
 def main():
     g = Grammar(open(os.path.join(HERE, 'sql.g')).read())
     g.work_out()
-    text = open(os.path.join(CRATES, 'hs_builder', 'proofs', 'Effects.antt')).read()
+    text = open(os.path.join(CRATES, 'hs_builder_laws', 'proofs', 'Effects.antt')).read()
     kinds = re.findall(r'^abbrev pub (\w+) : ℕ$', text, re.M)
     made = effects_file(g, Typing(g, effects_of_marks(text)), kinds)
     path = os.path.join(CRATES, 'hs_parser', 'proofs', 'RuleEffects.antt')

@@ -7,4 +7,3 @@ pub mod MarkSteps
 pub mod Queries
 pub mod Sessions
 pub mod Steps
-pub mod LawfulParts

@@ -11,7 +11,6 @@ mod depth;
 mod expression_steps;
 mod expressions;
 mod functions;
-mod laws;
 mod leaves;
 mod mark;
 mod mark_steps;
@@ -23,7 +22,6 @@ mod stack;
 mod statement_steps;
 
 pub use build_fault::BuildFault;
-pub use laws::steps_make_lawful_parts;
 pub use mark::{
     ChangeMark, DefinitionMark, ExpressionMark, FunctionMark, LeafMark, Mark, QueryMark,
     SessionMark,

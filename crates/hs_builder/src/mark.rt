@@ -5,7 +5,7 @@ use hs_ast::{
 };
 
 /// Words, names, numbers and texts. The token is the one that was taken last.
-#[derive(Clone, Copy, Debug, PartialEq, Eq)]
+#[derive(Clone, Copy)]
 pub enum LeafMark {
     /// The place of the token.
     Place,
@@ -41,7 +41,7 @@ pub enum LeafMark {
     Varchar,
 }
 
-#[derive(Clone, Copy, Debug, PartialEq, Eq)]
+#[derive(Clone, Copy)]
 pub enum ExpressionMark {
     Literal,
     Column,
@@ -73,7 +73,7 @@ pub enum ExpressionMark {
 }
 
 /// What begins with a word of its own.
-#[derive(Clone, Copy, Debug, PartialEq, Eq)]
+#[derive(Clone, Copy)]
 pub enum FunctionMark {
     Cast,
     /// The token is CASE.
@@ -92,7 +92,7 @@ pub enum FunctionMark {
     Aggregate(Aggregate),
 }
 
-#[derive(Clone, Copy, Debug, PartialEq, Eq)]
+#[derive(Clone, Copy)]
 pub enum QueryMark {
     Select,
     /// The token is the `*` of SELECT.
@@ -122,7 +122,7 @@ pub enum QueryMark {
     Offset,
 }
 
-#[derive(Clone, Copy, Debug, PartialEq, Eq)]
+#[derive(Clone, Copy)]
 pub enum ChangeMark {
     QueryStatement,
     Insert,
@@ -151,7 +151,7 @@ pub enum ChangeMark {
     LockStatement,
 }
 
-#[derive(Clone, Copy, Debug, PartialEq, Eq)]
+#[derive(Clone, Copy)]
 pub enum DefinitionMark {
     Create(Storage),
     ColumnElement,
@@ -183,7 +183,7 @@ pub enum DefinitionMark {
     DropIndex,
 }
 
-#[derive(Clone, Copy, Debug, PartialEq, Eq)]
+#[derive(Clone, Copy)]
 pub enum SessionMark {
     Modes,
     Level(Isolation),
@@ -204,7 +204,7 @@ pub enum SessionMark {
     Shutdown,
 }
 
-#[derive(Clone, Copy, Debug, PartialEq, Eq)]
+#[derive(Clone, Copy)]
 pub enum Mark {
     Leaf(LeafMark),
     Expression(ExpressionMark),

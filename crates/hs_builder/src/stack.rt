@@ -44,7 +44,7 @@ impl<T: Drop> Stack<T> {
     /// The topmost part. Where there is none, what called for it is no derivation's, and the answer is that of want
     /// of memory.
     pub fn pop(&mut self) -> Result<T, BuildFault>
-        ensures { MatchResult result (λ part. self.old ≡ part ∷ self.new) (λ e. e ≡ NoMemory) }
+        ensures { MatchResult result (λ part. self.old ≡ part ∷ self.new) (λ e. (e ≡ NoMemory) × (self.old ≡ [])) }
     {
         match self.parts.pop() {
             Some(part) => Ok(part),

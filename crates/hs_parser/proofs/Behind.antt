@@ -24,11 +24,11 @@ use Rattle.hs_syntax.specs.Literal.{Part, word, span, scaled, mark, rule, Produc
 use Rattle.hs_syntax.specs.Literal.Writes.{ends, takes, takes_one, takes_scaled, builds, goes_on}
 use Rattle.hs_syntax.specs.Marks as m
 use Rattle.hs_syntax.specs.Names.{number_0, number_1, number_38, number_4000, above, fraction, digit_text, start, literal as literal_rule, comma}
-use Rattle.hs_builder.proofs.Covering.{Then}
-use Rattle.hs_builder.proofs.LawfulMarks.{step_keeps, none_lawful, topmost_lawful}
+use Rattle.hs_builder_laws.proofs.Covering.{Then}
+use Rattle.hs_builder_laws.proofs.LawfulMarks.{step_keeps, none_lawful, topmost_lawful}
 use Rattle.hs_builder.specs.Leaves as leaves
 use Rattle.hs_builder.specs.Leaves.{number_in, units_of}
-use Rattle.hs_builder.specs.LawfulParts.{LawfulStatement, AreLawful, TopIs, TopTwoAre, IsPrecision, IsScaled, IsLength, IsPositive, IsUnsigned, HasFewDigits, IsFit, IsLawfulBehind}
+use Rattle.hs_builder_laws.specs.LawfulParts.{LawfulStatement, AreLawful, TopIs, TopTwoAre, IsPrecision, IsScaled, IsLength, IsPositive, IsUnsigned, HasFewDigits, IsFit, IsLawfulBehind}
 use Rattle.hs_builder.specs.MarkSteps.{leaf_step, step, no_parts, topmost}
 use Rattle.hs_builder.specs.Steps.{Step, stands, deep, wrong, deepened, and_then, lift, natural}
 use Rattle.hs_builder.specs.declared.mark.Mark.{Mark}

@@ -12,8 +12,8 @@ use Rattle.hs_parser.specs.declared.syntax_fault.SyntaxFault.{SyntaxFault}
 use Rattle.hs_parser.proofs.Behind.{tree_lawful}
 use Rattle.hs_syntax.specs.Classes.{classes_of}
 use Rattle.hs_syntax.specs.Meant.{IsMeantBy}
-use Rattle.hs_builder.proofs.Covering.{Then}
-use Rattle.hs_builder.specs.LawfulParts.{LawfulStatement}
+use Rattle.hs_builder_laws.proofs.Covering.{Then}
+use Rattle.hs_builder_laws.specs.LawfulParts.{LawfulStatement}
 
 pub lawful : (text : List ℕ) (tokens : List Token) (items : List Item) (result : Result Stmt SyntaxFault) → IsUtf8 text → IsMeantBy (classes_of text tokens) items → Grown text tokens items result
     → lexer.tokens_of text ≡ Ok tokens → IfOk result (λ statement. IsLawful statement)

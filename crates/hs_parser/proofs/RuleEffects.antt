@@ -1,6 +1,6 @@
 -- By rule of the grammar, what it takes from the stacks and leaves on them, made by grammar/make_effects.py.
 use Rattle.std.specs.Prelude.{ℕ, List, [], ◌∷◌, Some, None}
-use Rattle.hs_builder.proofs.Effects.{place, name, names, alias, flag, number, text, literal, type, e, es, case, form, field, count, select, table, from, rows, body, query, target, tuple, tuples, update, locks, definition, column, header, key, action, constraint, modes, statement, optional}
+use Rattle.hs_builder_laws.proofs.Effects.{place, name, names, alias, flag, number, text, literal, type, e, es, case, form, field, count, select, table, from, rows, body, query, target, tuple, tuples, update, locks, definition, column, header, key, action, constraint, modes, statement, optional}
 use Rattle.hs_parser.proofs.Typing.{Outcome}
 
 abbrev in_any : List ℕ → Outcome

@@ -21,13 +21,13 @@ use Rattle.hs_parser.specs.Sentences.{IsWhole, NoneMissing}
 use Rattle.hs_syntax.specs.Sql.{sql}
 use Rattle.hs_syntax.specs.Statement.{table_grammar}
 use Rattle.hs_builder.specs.Steps.{Step, stands, deep, wrong, deepened, and_then}
-use Rattle.hs_builder.proofs.Covering.{Every, Then}
-use Rattle.hs_builder.proofs.CoveringMarks.{step_kept, none_cover}
-use Rattle.hs_builder.proofs.Covers.{PartsCover}
-use Rattle.hs_builder.proofs.Effects.{heights, levels, bottom, effect, statement}
-use Rattle.hs_builder.proofs.Heights.{none, more, height, Height, Heights, joined, blank, changed, Framed, changed_framed}
-use Rattle.hs_builder.proofs.Levels.{Levels, shapes, Within}
-use Rattle.hs_builder.proofs.Marked.{Follows, step_follows, Keeps, step_keeps_depths}
+use Rattle.hs_builder_laws.proofs.Covering.{Every, Then}
+use Rattle.hs_builder_laws.proofs.CoveringMarks.{step_kept, none_cover}
+use Rattle.hs_builder_laws.proofs.Covers.{PartsCover}
+use Rattle.hs_builder_laws.proofs.Effects.{heights, levels, bottom, effect, statement}
+use Rattle.hs_builder_laws.proofs.Heights.{none, more, height, Height, Heights, joined, blank, changed, Framed, changed_framed}
+use Rattle.hs_builder_laws.proofs.Levels.{Levels, shapes, Within}
+use Rattle.hs_builder_laws.proofs.Marked.{Follows, step_follows, Keeps, step_keeps_depths}
 use Rattle.hs_parser.proofs.RuleEffects.{needs, results}
 use Rattle.hs_parser.proofs.Typing.{typed, Runs, given}
 

@@ -5,7 +5,7 @@ use Rattle.hs_grammar.proofs.Sets.{and_left, and_right}
 use Rattle.hs_grammar.specs.declared.types.Symbol.{Symbol}
 use Rattle.hs_grammar.specs.declared.types.Symbol.TheVariants as S
 use Rattle.hs_grammar.specs.Grammar.{Grammar, right, rule_of, turned}
-use Rattle.hs_builder.proofs.Heights.{Height, none, more, Heights, joined, blank, pops, pushes, unpops, Framed, framed, pops_framed, pushes_framed, unpops_framed, put_back, joined_blank}
+use Rattle.hs_builder_laws.proofs.Heights.{Height, none, more, Heights, joined, blank, pops, pushes, unpops, Framed, framed, pops_framed, pushes_framed, unpops_framed, put_back, joined_blank}
 
 -- what a rule may leave: in this state, or in any, these parts on its stacks
 pub record Outcome : Type 0 where

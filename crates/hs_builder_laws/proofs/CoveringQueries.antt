@@ -26,11 +26,11 @@ use Rattle.hs_builder.specs.declared.part.BuiltTable.{BuiltTable}
 use Rattle.hs_builder.specs.declared.part.PlacedNumber.{PlacedNumber}
 use Rattle.hs_builder.specs.Expressions.{query_of}
 use Rattle.hs_builder.specs.Queries as spec
-use Rattle.hs_builder.proofs.Covering.{Every, Then, made, pushed}
-use Rattle.hs_builder.proofs.Covers.{BuiltCovers, ListCovers, OptionalCovers, SelectCovers, TableCovers, FromCovers, RowsCover, BodyCovers, QueryCovers}
-use Rattle.hs_builder.proofs.CoveringExpressions.{query_covered}
-use Rattle.hs_builder.proofs.Trees as tree
-use Rattle.hs_builder.proofs.Trees.{key_depth, item_depth, table_depth, join_depth, from_depth, row_depth}
+use Rattle.hs_builder_laws.proofs.Covering.{Every, Then, made, pushed}
+use Rattle.hs_builder_laws.proofs.Covers.{BuiltCovers, ListCovers, OptionalCovers, SelectCovers, TableCovers, FromCovers, RowsCover, BodyCovers, QueryCovers}
+use Rattle.hs_builder_laws.proofs.CoveringExpressions.{query_covered}
+use Rattle.hs_builder_laws.proofs.Trees as tree
+use Rattle.hs_builder_laws.proofs.Trees.{key_depth, item_depth, table_depth, join_depth, from_depth, row_depth}
 
 -- ---- SELECT
 

@@ -80,10 +80,10 @@ use Rattle.hs_builder.specs.Queries as query
 use Rattle.hs_builder.specs.Queries.{body_at, join_of, with_offset}
 use Rattle.hs_builder.specs.Sessions as session
 use Rattle.hs_builder.specs.Steps.{Level, within, beyond, over, at_depth, natural}
-use Rattle.hs_builder.specs.LawfulParts.{arm_lawful, join_lawful, item_lawful, table_lawful, from_lawful, key_lawful, row_lawful, LawfulName, LawfulNames, LawfulAlias, LawfulNumber, LawfulLiteral, LawfulType, LawfulCount, LawfulBuilt, LawfulList, LawfulCase, LawfulOptional, LawfulSelect, LawfulTable, LawfulFrom, LawfulRows, LawfulBody, LawfulQuery, LawfulTarget, LawfulTuple, LawfulTuples, LawfulUpdate, LawfulDelete, LawfulLocks, LawfulCreate, LawfulColumn, LawfulHeader, LawfulKey, LawfulConstraint, LawfulStatement, Every, TopIs, TopTwoAre, IsPrecision, IsScaled, IsLength, IsPositive, IsUnsigned}
-use Rattle.hs_builder.proofs.Covering.{Then}
-use Rattle.hs_builder.proofs.LawfulLayers as layer
-use Rattle.hs_builder.proofs.LawfulLayers.{both, left, right, pushed, false_is_true}
+use Rattle.hs_builder_laws.specs.LawfulParts.{arm_lawful, join_lawful, item_lawful, table_lawful, from_lawful, key_lawful, row_lawful, LawfulName, LawfulNames, LawfulAlias, LawfulNumber, LawfulLiteral, LawfulType, LawfulCount, LawfulBuilt, LawfulList, LawfulCase, LawfulOptional, LawfulSelect, LawfulTable, LawfulFrom, LawfulRows, LawfulBody, LawfulQuery, LawfulTarget, LawfulTuple, LawfulTuples, LawfulUpdate, LawfulDelete, LawfulLocks, LawfulCreate, LawfulColumn, LawfulHeader, LawfulKey, LawfulConstraint, LawfulStatement, Every, TopIs, TopTwoAre, IsPrecision, IsScaled, IsLength, IsPositive, IsUnsigned}
+use Rattle.hs_builder_laws.proofs.Covering.{Then}
+use Rattle.hs_builder_laws.proofs.LawfulLayers as layer
+use Rattle.hs_builder_laws.proofs.LawfulLayers.{both, left, right, pushed, false_is_true}
 
 any_depth : {S : Type 0} (P : S → Type 0) (l : Level) (f : ℕ → S) → ((d : ℕ) → P (f d)) → Then P (at_depth l f)
 any_depth P (within d) f h = h d

@@ -22,10 +22,10 @@ use Rattle.hs_builder.specs.declared.part.ConstraintHeader.{ConstraintHeader}
 use Rattle.hs_builder.specs.declared.part.InsertTarget.{InsertTarget}
 use Rattle.hs_builder.specs.Changes as change
 use Rattle.hs_builder.specs.Definitions as definition
-use Rattle.hs_builder.proofs.Covering.{Every, Then, deepest_first, pushed}
-use Rattle.hs_builder.proofs.Covers.{BuiltCovers, OptionalCovers, BodyCovers, QueryCovers, values_depth, TupleCovers, TuplesCover}
-use Rattle.hs_builder.proofs.Trees as tree
-use Rattle.hs_builder.proofs.Trees.{row_depth}
+use Rattle.hs_builder_laws.proofs.Covering.{Every, Then, deepest_first, pushed}
+use Rattle.hs_builder_laws.proofs.Covers.{BuiltCovers, OptionalCovers, BodyCovers, QueryCovers, values_depth, TupleCovers, TuplesCover}
+use Rattle.hs_builder_laws.proofs.Trees as tree
+use Rattle.hs_builder_laws.proofs.Trees.{row_depth}
 
 -- ---- parts that go into a statement
 

@@ -35,7 +35,7 @@ use Rattle.hs_ast.specs.declared.query.TableReference.{TableReference, fold-roll
 use Rattle.hs_ast.specs.declared.query.TableReference.TheVariants as table
 use Rattle.hs_ast.specs.declared.query.ValuesRow.{ValuesRow, roll-ValuesRow, fold-roll-ValuesRow}
 use Rattle.hs_ast.specs.declared.word.Identifier.{Identifier}
-use Rattle.hs_builder.specs.LawfulParts.{kind_lawful, arm_lawful, join_lawful, body_lawful, item_lawful, table_lawful, from_lawful, select_lawful, key_lawful, row_lawful}
+use Rattle.hs_builder_laws.specs.LawfulParts.{kind_lawful, arm_lawful, join_lawful, body_lawful, item_lawful, table_lawful, from_lawful, select_lawful, key_lawful, row_lawful}
 
 -- ---- tests that hold together
 

@@ -18,8 +18,8 @@ use Rattle.hs_builder.specs.declared.part.Expressions.{Expressions}
 use Rattle.hs_builder.specs.declared.part.Parts.{Parts}
 use Rattle.hs_builder.specs.declared.part.Queries.{Queries}
 use Rattle.hs_builder.specs.declared.part.BuiltOptional.{BuiltOptional}
-use Rattle.hs_builder.proofs.Covering.{Every}
-use Rattle.hs_builder.proofs.Trees.{arm_depth, join_depth, body_depth, item_depth, table_depth, from_depth, key_depth, row_depth}
+use Rattle.hs_builder_laws.proofs.Covering.{Every}
+use Rattle.hs_builder_laws.proofs.Trees.{arm_depth, join_depth, body_depth, item_depth, table_depth, from_depth, key_depth, row_depth}
 
 -- ---- expressions
 

@@ -15,11 +15,11 @@ use Rattle.hs_ast.specs.declared.session.Modes.{Modes}
 use Rattle.hs_ast.specs.declared.statement.Stmt.{Stmt}
 use Rattle.hs_ast.specs.declared.word.Identifier.{Identifier}
 use Rattle.hs_lexer.specs.declared.token.Token.{Token}
-use Rattle.hs_builder.proofs.Covering.{Every, Then, lifted}
-use Rattle.hs_builder.proofs.CoveringExpressions as of_expression
-use Rattle.hs_builder.proofs.CoveringQueries as of_query
-use Rattle.hs_builder.proofs.CoveringStatements as of_statement
-use Rattle.hs_builder.proofs.Covers.{BuiltCovers, CaseCovers, OptionalCovers, SelectCovers, RowsCover, BodyCovers, TupleCovers, TuplesCover, ExpressionsCover, QueriesCover, PartsCover}
+use Rattle.hs_builder_laws.proofs.Covering.{Every, Then, lifted}
+use Rattle.hs_builder_laws.proofs.CoveringExpressions as of_expression
+use Rattle.hs_builder_laws.proofs.CoveringQueries as of_query
+use Rattle.hs_builder_laws.proofs.CoveringStatements as of_statement
+use Rattle.hs_builder_laws.proofs.Covers.{BuiltCovers, CaseCovers, OptionalCovers, SelectCovers, RowsCover, BodyCovers, TupleCovers, TuplesCover, ExpressionsCover, QueriesCover, PartsCover}
 use Rattle.hs_builder.specs.MarkSteps.{leaf_step, expression_step, function_step, query_step, change_step, definition_step, session_step, step, no_parts}
 use Rattle.hs_builder.specs.Changes as change
 use Rattle.hs_builder.specs.Definitions as definition

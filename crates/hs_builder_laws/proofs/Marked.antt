@@ -35,12 +35,12 @@ use Rattle.hs_ast.specs.declared.definition.ColumnRule.{ColumnRule}
 use Rattle.hs_ast.specs.declared.definition.ColumnRule.TheVariants as column
 use Rattle.hs_ast.specs.declared.definition.TableElement.TheVariants as element
 use Rattle.std.proofs.lemmas.Bool.Decides.{nat_tests}
-use Rattle.hs_builder.proofs.Covering.{pushed}
-use Rattle.hs_builder.proofs.Covers.{values_depth, PartsCover}
-use Rattle.hs_builder.proofs.CoveringExpressions.{query_covered}
-use Rattle.hs_builder.proofs.Effects.{heights, levels, effect, update_depth, table_depth, rule_depth, column_depth, constraint_depth}
-use Rattle.hs_builder.proofs.Heights.{Heights, changed, and_next, pushes}
-use Rattle.hs_builder.proofs.Levels.{Levels, shapes, take_levels, put_one, shape_behind, takes_shape, one_shape, Within, AllParted, takes_parted, Puts, forth, back, put_within}
+use Rattle.hs_builder_laws.proofs.Covering.{pushed}
+use Rattle.hs_builder_laws.proofs.Covers.{values_depth, PartsCover}
+use Rattle.hs_builder_laws.proofs.CoveringExpressions.{query_covered}
+use Rattle.hs_builder_laws.proofs.Effects.{heights, levels, effect, update_depth, table_depth, rule_depth, column_depth, constraint_depth}
+use Rattle.hs_builder_laws.proofs.Heights.{Heights, changed, and_next, pushes}
+use Rattle.hs_builder_laws.proofs.Levels.{Levels, shapes, take_levels, put_one, shape_behind, takes_shape, one_shape, Within, AllParted, takes_parted, Puts, forth, back, put_within}
 use Rattle.hs_builder.specs.Changes.{assigned}
 use Rattle.hs_builder.specs.Definitions.{with_rule}
 use Rattle.hs_builder.specs.MarkSteps.{step}

@@ -1,8 +1,8 @@
 -- The depths of the parts on the stacks: what is taken is nowhere deeper than what is put in its place.
 use Rattle.std.proofs.Common.{◌≡◌, ℕ, zero, suc, ◌≤◌, Option, Some, None, List, [], ◌∷◌, map, refl, ap, subst, ◌∙◌, arith}
 use Rattle.std.specs.Prelude.{max}
-use Rattle.hs_builder.proofs.Covering.{Every}
-use Rattle.hs_builder.proofs.Heights.{height, Heights, beside, and_next, pop, push, pops, pushes}
+use Rattle.hs_builder_laws.proofs.Covering.{Every}
+use Rattle.hs_builder_laws.proofs.Heights.{height, Heights, beside, and_next, pop, push, pops, pushes}
 
 -- each stack from the top down
 abbrev pub Levels : Type 0

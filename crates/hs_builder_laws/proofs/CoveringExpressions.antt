@@ -27,10 +27,10 @@ use Rattle.hs_builder.specs.declared.part.PlacedLiteral.{PlacedLiteral}
 use Rattle.hs_builder.specs.declared.part.PlacedText.{PlacedText}
 use Rattle.hs_builder.specs.Expressions as spec
 use Rattle.hs_builder.specs.Functions as function
-use Rattle.hs_builder.proofs.Covering.{Every, Then, made, deepest_first, pushed}
-use Rattle.hs_builder.proofs.Covers.{BuiltCovers, ListCovers, CaseCovers, OptionalCovers, BodyCovers, QueryCovers}
-use Rattle.hs_builder.proofs.Trees as tree
-use Rattle.hs_builder.proofs.Trees.{kind_depth, arm_depth}
+use Rattle.hs_builder_laws.proofs.Covering.{Every, Then, made, deepest_first, pushed}
+use Rattle.hs_builder_laws.proofs.Covers.{BuiltCovers, ListCovers, CaseCovers, OptionalCovers, BodyCovers, QueryCovers}
+use Rattle.hs_builder_laws.proofs.Trees as tree
+use Rattle.hs_builder_laws.proofs.Trees.{kind_depth, arm_depth}
 
 -- ---- what is put on a stack
 

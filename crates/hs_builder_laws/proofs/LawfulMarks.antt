@@ -63,9 +63,9 @@ use Rattle.hs_builder.specs.declared.part.Queries.{Queries}
 use Rattle.hs_builder.specs.declared.mark.LeafMark.{LeafMark}
 use Rattle.hs_builder.specs.declared.mark.LeafMark.TheVariants as leaf
 use Rattle.hs_ast.specs.declared.literal.Literal.TheVariants as literal
-use Rattle.hs_builder.specs.LawfulParts.{LawfulName, LawfulNames, LawfulAlias, LawfulNumber, LawfulLiteral, LawfulType, LawfulCount, LawfulBuilt, LawfulList, LawfulCase, LawfulOptional, LawfulSelect, LawfulTable, LawfulFrom, LawfulRows, LawfulBody, LawfulQuery, LawfulTarget, LawfulTuple, LawfulTuples, LawfulUpdate, LawfulDelete, LawfulLocks, LawfulCreate, LawfulColumn, LawfulHeader, LawfulKey, LawfulConstraint, LawfulStatement, Every, LeavesAreLawful, ExpressionsAreLawful, QueriesAreLawful, AreLawful, LeafFits, ExpressionFits, QueryFits, IsFit, IsLawfulBehind}
-use Rattle.hs_builder.proofs.Covering.{Then, lifted}
-use Rattle.hs_builder.proofs.LawfulSteps.{name_in_leaves, first_name_in_leaves, next_name_in_leaves, alias_in_leaves, number_in_leaves, read_text_in_leaves, number_literal_in_leaves, text_literal_in_leaves, word_literal_in_leaves, date_in_leaves, timestamp_in_leaves, signed_literal_in_leaves, decimal_in_leaves, decimal_scale_in_leaves, varchar_in_leaves, literal_in_expression, column_in_expression, qualified_in_expression, bracket_in_expression, signed_in_expression, negation_in_expression, binary_in_expression, is_null_in_expression, between_in_expression, like_in_expression, like_escape_in_expression, in_list_in_expression, in_query_in_expression, exists_in_expression, subquery_in_expression, body_subquery_in_expression, digits_in_leaves, interval_in_expression, first_in_expression, next_in_expression, written_in_expression, unwritten_in_expression, cast_in_function, begin_case_in_function, arm_in_function, end_case_in_function, call_in_function, substring_in_function, substring_for_in_function, trim_in_function, trim_character_in_function, extract_in_function, count_rows_in_function, aggregate_in_function, begin_select_in_query, every_in_query, item_in_query, named_table_in_query, derived_table_in_query, begin_from_in_query, join_on_in_query, cross_join_in_query, add_from_in_query, group_in_query, select_body_in_query, begin_values_in_query, row_in_query, values_body_in_query, bracket_body_in_query, set_operation_in_query, begin_query_in_query, key_in_query, limit_in_query, offset_in_query, query_statement_in_change, begin_insert_in_change, insert_columns_in_change, begin_tuples_in_change, begin_tuple_in_change, tuple_value_in_change, tuple_default_in_change, add_tuple_in_change, tuples_body_in_change, insert_tuples_in_change, insert_query_in_change, begin_update_in_change, assign_in_change, assign_default_in_change, update_statement_in_change, begin_delete_in_change, delete_statement_in_change, begin_lock_in_change, locked_in_change, lock_statement_in_change, begin_table_in_definition, column_element_in_definition, constraint_element_in_definition, create_statement_in_definition, create_index_in_definition, define_in_definition, default_in_definition, named_in_definition, unnamed_in_definition, column_check_in_definition, column_references_in_definition, references_in_definition, parent_columns_in_definition, on_delete_in_definition, on_update_in_definition, table_primary_in_definition, table_unique_in_definition, table_check_in_definition, table_foreign_in_definition, add_column_in_definition, add_constraint_in_definition, drop_constraint_in_definition, drop_table_in_definition, drop_index_in_definition, begin_modes_in_session, level_in_session, access_in_session, set_transaction_in_session, set_characteristics_in_session, start_in_session, commit_in_session, rollback_in_session, savepoint_in_session, rollback_to_in_session, release_in_session, autocommit_in_session, control_in_session, default_level_in_session, write_delay_false_in_session, checkpoint_in_session, shutdown_in_session, add_rule_in_definition}
+use Rattle.hs_builder_laws.specs.LawfulParts.{LawfulName, LawfulNames, LawfulAlias, LawfulNumber, LawfulLiteral, LawfulType, LawfulCount, LawfulBuilt, LawfulList, LawfulCase, LawfulOptional, LawfulSelect, LawfulTable, LawfulFrom, LawfulRows, LawfulBody, LawfulQuery, LawfulTarget, LawfulTuple, LawfulTuples, LawfulUpdate, LawfulDelete, LawfulLocks, LawfulCreate, LawfulColumn, LawfulHeader, LawfulKey, LawfulConstraint, LawfulStatement, Every, LeavesAreLawful, ExpressionsAreLawful, QueriesAreLawful, AreLawful, LeafFits, ExpressionFits, QueryFits, IsFit, IsLawfulBehind}
+use Rattle.hs_builder_laws.proofs.Covering.{Then, lifted}
+use Rattle.hs_builder_laws.proofs.LawfulSteps.{name_in_leaves, first_name_in_leaves, next_name_in_leaves, alias_in_leaves, number_in_leaves, read_text_in_leaves, number_literal_in_leaves, text_literal_in_leaves, word_literal_in_leaves, date_in_leaves, timestamp_in_leaves, signed_literal_in_leaves, decimal_in_leaves, decimal_scale_in_leaves, varchar_in_leaves, literal_in_expression, column_in_expression, qualified_in_expression, bracket_in_expression, signed_in_expression, negation_in_expression, binary_in_expression, is_null_in_expression, between_in_expression, like_in_expression, like_escape_in_expression, in_list_in_expression, in_query_in_expression, exists_in_expression, subquery_in_expression, body_subquery_in_expression, digits_in_leaves, interval_in_expression, first_in_expression, next_in_expression, written_in_expression, unwritten_in_expression, cast_in_function, begin_case_in_function, arm_in_function, end_case_in_function, call_in_function, substring_in_function, substring_for_in_function, trim_in_function, trim_character_in_function, extract_in_function, count_rows_in_function, aggregate_in_function, begin_select_in_query, every_in_query, item_in_query, named_table_in_query, derived_table_in_query, begin_from_in_query, join_on_in_query, cross_join_in_query, add_from_in_query, group_in_query, select_body_in_query, begin_values_in_query, row_in_query, values_body_in_query, bracket_body_in_query, set_operation_in_query, begin_query_in_query, key_in_query, limit_in_query, offset_in_query, query_statement_in_change, begin_insert_in_change, insert_columns_in_change, begin_tuples_in_change, begin_tuple_in_change, tuple_value_in_change, tuple_default_in_change, add_tuple_in_change, tuples_body_in_change, insert_tuples_in_change, insert_query_in_change, begin_update_in_change, assign_in_change, assign_default_in_change, update_statement_in_change, begin_delete_in_change, delete_statement_in_change, begin_lock_in_change, locked_in_change, lock_statement_in_change, begin_table_in_definition, column_element_in_definition, constraint_element_in_definition, create_statement_in_definition, create_index_in_definition, define_in_definition, default_in_definition, named_in_definition, unnamed_in_definition, column_check_in_definition, column_references_in_definition, references_in_definition, parent_columns_in_definition, on_delete_in_definition, on_update_in_definition, table_primary_in_definition, table_unique_in_definition, table_check_in_definition, table_foreign_in_definition, add_column_in_definition, add_constraint_in_definition, drop_constraint_in_definition, drop_table_in_definition, drop_index_in_definition, begin_modes_in_session, level_in_session, access_in_session, set_transaction_in_session, set_characteristics_in_session, start_in_session, commit_in_session, rollback_in_session, savepoint_in_session, rollback_to_in_session, release_in_session, autocommit_in_session, control_in_session, default_level_in_session, write_delay_false_in_session, checkpoint_in_session, shutdown_in_session, add_rule_in_definition}
 
 abbrev LeafAfter : Leaves → Type 0
 LeafAfter l = LeavesAreLawful l

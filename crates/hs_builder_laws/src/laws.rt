@@ -3,7 +3,7 @@ ghost use Rattle.std.specs.Prelude.{ℕ, List};
 ghost use Rattle.hs_lexer.specs.declared.token.Token.{Token};
 ghost use Rattle.hs_builder.specs.declared.mark.Mark.{Mark};
 ghost use Rattle.hs_builder.specs.declared.part.Parts.{Parts};
-ghost use Rattle.hs_builder.specs.LawfulParts.{AreLawful, IsFit, IsLawfulBehind};
+ghost use Rattle.hs_builder_laws.specs.LawfulParts.{AreLawful, IsFit, IsLawfulBehind};
 ghost use Rattle.hs_builder.specs.MarkSteps.{step};
 
 /// A step that reads lawful names and numbers, in the range that it needs, makes lawful parts of lawful ones.

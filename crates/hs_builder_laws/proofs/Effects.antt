@@ -19,7 +19,7 @@ use Rattle.hs_builder.specs.declared.part.BuiltSelect.{BuiltSelect}
 use Rattle.hs_builder.specs.declared.part.BuiltTable.{BuiltTable}
 use Rattle.hs_builder.specs.declared.part.BuiltTuple.{BuiltTuple}
 use Rattle.hs_builder.specs.declared.part.BuiltTuples.{BuiltTuples}
-use Rattle.hs_builder.proofs.Levels.{Levels, shapes}
+use Rattle.hs_builder_laws.proofs.Levels.{Levels, shapes}
 use Rattle.hs_builder.specs.declared.mark.Mark.{Mark}
 use Rattle.hs_builder.specs.declared.mark.Mark.TheVariants as mark
 use Rattle.hs_builder.specs.declared.mark.LeafMark.{LeafMark}
@@ -37,7 +37,7 @@ use Rattle.hs_builder.specs.declared.mark.DefinitionMark.TheVariants as d_mark
 use Rattle.hs_builder.specs.declared.mark.SessionMark.{SessionMark}
 use Rattle.hs_builder.specs.declared.mark.SessionMark.TheVariants as s_mark
 use Rattle.hs_builder.specs.declared.part.Parts.{Parts}
-use Rattle.hs_builder.proofs.Heights.{none, Heights, Effect}
+use Rattle.hs_builder_laws.proofs.Heights.{none, Heights, Effect}
 
 -- ---- the stacks, by their numbers
 

@@ -1,0 +1,14 @@
+pub mod Covering
+pub mod CoveringExpressions
+pub mod CoveringMarks
+pub mod CoveringQueries
+pub mod CoveringStatements
+pub mod Covers
+pub mod Effects
+pub mod Heights
+pub mod LawfulLayers
+pub mod LawfulMarks
+pub mod LawfulSteps
+pub mod Levels
+pub mod Marked
+pub mod Trees
