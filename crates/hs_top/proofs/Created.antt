@@ -1,5 +1,5 @@
 -- That a new log gives nothing, and so what an unborn one gives.
-use Rattle.std.proofs.Common.{◌≡◌, ◌⊎◌, ℕ, Bool, true, false, cond, List, [], Ok, refl, sym, ap, ◌∙◌, inl, inr, arith}
+use Rattle.std.proofs.Common.{◌≡◌, ◌⊎◌, ℕ, Bool, false, cond, List, [], Ok, refl, sym, ap, ◌∙◌, inl, inr, arith}
 use Rattle.hs_log.specs.Log.{IsWholeLog, IsUnbornOrNew, is_born, texts_of as texts_in_log}
 use Rattle.hs_log.proofs.Logs.{log_parts}
 use Rattle.hs_top.specs.Crash.{GivesSame, Survives}

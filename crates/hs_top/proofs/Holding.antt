@@ -1,25 +1,22 @@
 -- What holds of the log and of the output at each moment, from what a call does.
 use Rattle.std.proofs.Common.{◌≡◌, ◌⊎◌, ℕ, ◌+◌, ◌≤◌, Bool, true, false, List, [], ◌∷◌, ◌++◌, length, inl, inr, refl, sym, ap, subst, ◌∙◌, arith, append_assoc, length-append, append-nil}
-use Rattle.hs_host.specs.declared.file_kind.FileKind.{FileKind}
 use Rattle.hs_host.specs.declared.file_kind.FileKind.TheVariants.{Log}
 use Rattle.hs_host.specs.declared.source.Source as source
 use Rattle.hs_host.specs.declared.host.Host as host
 use Rattle.hs_host.specs.Disk.{Pending, Leaves}
 use Rattle.hs_host.specs.Files.{Five, of, IsOpen, IsHonest}
-use Rattle.hs_host.specs.Prefixes.{KeepsPrefix}
 use Rattle.hs_host.specs.Moments.{Moment, History, Since, IsPrinted, IsReading, disk_of}
-use Rattle.hs_host.specs.Used.{Told, UsesDisk, UsesOutput}
+use Rattle.hs_host.specs.Used.{Told, UsesDisk}
 use Rattle.hs_host.proofs.Passing.{since_weaker, since_join, since_now}
-use Rattle.hs_host.proofs.Torn.{front_stays}
 use Rattle.hs_log.specs.declared.log.Log.{Log as Kept}
 use Rattle.hs_log.proofs.Logs.{log_of, log_left, log_on, same_is}
-use Rattle.hs_log.specs.Log.{IsLogOf, IsLog, HasRoom, HasNoneOrAll, epoch_in}
+use Rattle.hs_log.specs.Log.{IsLogOf, IsLog, HasRoom, epoch_in}
 use Rattle.std.specs.Prelude.{◌==◌, ◌&&◌, not}
 use Rattle.std.proofs.lemmas.List.{append_cancel_left}
 use Rattle.hs_entries.specs.Parts.{lacks}
 use Rattle.hs_top.specs.Crash.{AcknowledgesBehind, HasNoLine}
 use Rattle.hs_top.specs.Holding.{IsHeld, IsGathered, IsAcknowledging, IsLogging, IsStep, IsHandedOver}
-use Rattle.hs_top.specs.Running.{Stands, UsesWork, OnlyLog, texts_in}
+use Rattle.hs_top.specs.Running.{Stands, texts_in}
 use Rattle.hs_entries.specs.declared.item.Item.{Item}
 use Rattle.hs_machine.specs.Lines.{OpenedAt, ClosedAt, printed_line, printed, text_of}
 use Rattle.hs_top.specs.Machine.{State, step_of}
@@ -255,39 +252,6 @@ held_first files h log is first before opened rest m out t left leaves = record 
   begun = λ none. refl;
 }
 
--- files and output, and output behind that
-pub work_output : {H : Type 0} {s : source.Ghosts H} {g : host.Ghosts H} {a b c : H} → UsesWork s g a b → UsesOutput s g b c → UsesWork s g a c
-work_output {H} {s} {g} {a} {b} {c} ab bc = record {
-  standing = bc.standing ∙ ab.standing;
-  unread = bc.unread ∙ ab.unread;
-  input_faults = bc.input_faults ∙ ab.input_faults;
-  output_later = omega (arith, ab.output_later, bc.output_later);
-  disk_later = omega (arith, ab.disk_later, ap (λ (n : ℕ). n) bc.disk_faults);
-  others = λ told. subst (λ (f : Five (List ℕ)). OnlyLog (g.files a) f) (sym bc.files) (ab.others told);
-}
-
--- output alone
-pub output_alone : {H : Type 0} {s : source.Ghosts H} {g : host.Ghosts H} {a b : H} → UsesOutput s g a b → UsesWork s g a b
-output_alone {H} {s} {g} {a} {b} ab = record {
-  standing = ab.standing;
-  unread = ab.unread;
-  input_faults = ab.input_faults;
-  output_later = ab.output_later;
-  disk_later = omega (arith, ap (λ (n : ℕ). n) ab.disk_faults);
-  others = λ told. subst (λ (f : Five (List ℕ)). OnlyLog (g.files a) f) (sym ab.files) refl;
-}
-
--- the log alone
-pub disk_alone : {H : Type 0} {s : source.Ghosts H} {g : host.Ghosts H} {a b : H} → UsesDisk s g a b → (Told s g a → OnlyLog (g.files a) (g.files b)) → UsesWork s g a b
-disk_alone {H} {s} {g} {a} {b} ab others = record {
-  standing = ab.standing;
-  unread = ab.unread;
-  input_faults = ab.input_faults;
-  output_later = omega (arith, ap (λ (n : ℕ). n) ab.output_faults);
-  disk_later = ab.disk_later;
-  others = others;
-}
-
 -- one commit more is logged
 pub stands_more : {H : Type 0} {s : source.Ghosts H} {g : host.Ghosts H} (old new : Kept) (n : ℕ) (a b : H) → epoch_in new ≡ epoch_in old → (HasRoom n old → HasRoom (n + 1) new) → UsesDisk s g a b
     → (Told s g a → IsLog (g.history b) (g.files b) new) → Stands s g old n a → Stands s g new (n + 1) b
@@ -297,10 +261,6 @@ stands_more {H} {s} {g} old new n a b epoch room uses log stands = record {
   room = room stands.room;
   log = λ t. log (record { tells = t.tells; honest = subst IsHonest uses.standing t.honest });
 }
-
--- no file was changed
-pub only_log : (old new : Five (List ℕ)) → new ≡ old → OnlyLog old new
-only_log old new same = subst (λ (f : Five (List ℕ)). OnlyLog old f) (sym same) refl
 
 -- a line that was handed over stands in front of what is left
 pub handed_first : (now old gathered line rest : List ℕ) → gathered ≡ [] → now ≡ old ++ line → now ++ (gathered ++ rest) ≡ old ++ (line ++ rest)

@@ -30,3 +30,4 @@ pub mod Replies
 pub mod Turns
 pub mod Numbered
 pub mod Mounted
+pub mod Used

@@ -1,5 +1,5 @@
 -- What a crash leaves of a log while it is opened.
-use Rattle.std.proofs.Common.{◌≡◌, ℕ, Bool, true, cond, List, [], Result, Ok, Err, inl, inr, sym, ◌∙◌, ap, subst}
+use Rattle.std.proofs.Common.{◌≡◌, ℕ, Bool, cond, List, [], Result, Ok, Err, inl, inr, sym, ◌∙◌, ap, subst}
 use Rattle.hs_host.specs.declared.file_kind.FileKind.TheVariants.{Log}
 use Rattle.hs_host.specs.Disk.{Pending, Leaves, settled}
 use Rattle.hs_host.specs.Files.{Five}
@@ -8,7 +8,7 @@ use Rattle.hs_host.proofs.Changing.{disk_is}
 use Rattle.hs_host.proofs.Passing.{since_weaker, since_join, since_now, still_disks}
 use Rattle.hs_log.specs.Log.{IsSameLog, IsOpening, is_born, has_header, is_broken, texts_of}
 use Rattle.hs_top.specs.Crash.{GivesSame, IsFound}
-use Rattle.hs_top.specs.Opening.{Opened, nothing_logged, given, opened_of, texts_at}
+use Rattle.hs_top.specs.Opening.{Opened, nothing_logged, given}
 use Rattle.hs_top.proofs.Safe.{same_gives}
 
 -- what a log gives, by its birth byte, its header and its texts

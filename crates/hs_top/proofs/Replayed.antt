@@ -1,5 +1,5 @@
 -- What a log gives whose texts are made again one after another.
-use Rattle.std.proofs.Common.{◌≡◌, ℕ, ◌+◌, Bool, true, false, cond, List, [], ◌∷◌, length, Option, None, Some, Result, Ok, Err, refl, sym, ap, ◌∙◌, arith}
+use Rattle.std.proofs.Common.{◌≡◌, ℕ, ◌+◌, Bool, true, false, cond, List, [], ◌∷◌, length, None, Some, Result, Ok, Err, refl, sym, ap, ◌∙◌, arith}
 use Rattle.hs_log.specs.Log.{is_born, has_header, is_broken, texts_of}
 use Rattle.hs_top.specs.Opening.{Opened, nothing_logged, redone, replayed, unless_broken, given, opened_of}
 use Rattle.hs_top.proofs.Reopened.{commits_of_texts}

@@ -4,7 +4,7 @@ use Rattle.std.proofs.Math.Seq.{take-append_seam}
 use Rattle.hs_entries.specs.declared.item.Item.{Item}
 use Rattle.hs_entries.specs.declared.item.Item.TheVariants.{Entry, Bad, TooLong, End}
 use Rattle.hs_entries.specs.Items.{items}
-use Rattle.hs_log.specs.Log.{IsLogOf, is_born, is_broken, texts_of as texts_in_log}
+use Rattle.hs_log.specs.Log.{IsLogOf, is_born, texts_of as texts_in_log}
 use Rattle.hs_log.proofs.Logs.{log_parts}
 use Rattle.hs_host.specs.declared.file_kind.FileKind.TheVariants.{Log}
 use Rattle.hs_host.specs.Disk.{Pending, Leaves, settled}

@@ -16,3 +16,4 @@ pub mod Statement
 pub mod Status
 pub mod Stop
 pub mod Acknowledged
+pub mod Used

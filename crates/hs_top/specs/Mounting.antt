@@ -1,5 +1,5 @@
 -- What mounting the files of a database does.
-use Rattle.std.specs.Prelude.{◌≡◌, ◌≤◌}
+use Rattle.std.specs.Prelude.{◌≡◌, ◌≤◌, Result, IfErr}
 use Rattle.hs_host.specs.declared.source.Source as source
 use Rattle.hs_host.specs.declared.host.Host as host
 use Rattle.hs_host.specs.Host.{Rose}
@@ -7,18 +7,6 @@ use Rattle.hs_host.specs.Files.{IsForeign}
 use Rattle.hs_top.specs.declared.damage.Damage.TheVariants.{Foreign, Log}
 use Rattle.hs_top.specs.declared.status.Status.{Status}
 use Rattle.hs_top.specs.declared.status.Status.TheVariants.{Done, Usage, InputFault, OutputFault, DiskFault, NoMemory, Damaged, InputTooLong}
-
--- Only how the host stands is other: it is read as honestly as before, nothing was read, written or changed, and no count of
--- faults fell.
-pub record Mounts {H : Type 0} (s : source.Ghosts H) (g : host.Ghosts H) (old new : H) : Type 0 where
-  pub honest : (g.standing new).is_honest ≡ (g.standing old).is_honest
-  pub files : s.tells → g.files new ≡ g.files old
-  pub history : s.tells → g.history new ≡ g.history old
-  pub unread : s.unread new ≡ s.unread old
-  pub input_faults : s.input_faults new ≡ s.input_faults old
-  pub written : g.written new ≡ g.written old
-  pub output_faults : g.output_faults new ≡ g.output_faults old
-  pub disk_later : g.disk_faults old ≤ g.disk_faults new
 
 -- A run stops here where the files are those of another program, where the disk failed, and for want of memory.
 abbrev pub MountStops : {H : Type 0} → source.Ghosts H → host.Ghosts H → H → H → Status → Type 0
@@ -31,3 +19,16 @@ MountStops s g old new Usage = ⊥
 MountStops s g old new InputFault = ⊥
 MountStops s g old new OutputFault = ⊥
 MountStops s g old new InputTooLong = ⊥
+
+-- Only how the host stands is other: it is read as honestly as before, nothing was read, written or changed, and no count of
+-- faults fell.
+pub record Mounts {T H : Type 0} (s : source.Ghosts H) (g : host.Ghosts H) (old new : H) (result : Result T Status) : Type 0 where
+  pub honest : (g.standing new).is_honest ≡ (g.standing old).is_honest
+  pub files : s.tells → g.files new ≡ g.files old
+  pub history : s.tells → g.history new ≡ g.history old
+  pub unread : s.unread new ≡ s.unread old
+  pub input_faults : s.input_faults new ≡ s.input_faults old
+  pub written : g.written new ≡ g.written old
+  pub output_faults : g.output_faults new ≡ g.output_faults old
+  pub disk_later : g.disk_faults old ≤ g.disk_faults new
+  pub stops : IfErr result (MountStops s g old new)

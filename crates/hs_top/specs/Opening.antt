@@ -1,5 +1,5 @@
 -- What a run begins with: what its log gives.
-use Rattle.std.specs.Prelude.{◌≡◌, ℕ, ◌+◌, Bool, true, if◌then◌else◌, List, [], ◌∷◌, length, Option, None, Some, Result, Ok, Err}
+use Rattle.std.specs.Prelude.{◌≡◌, ℕ, ◌+◌, Bool, if◌then◌else◌, List, [], ◌∷◌, length, Option, None, Some, Result, Ok, Err}
 use Rattle.hs_entries.specs.Items.{items}
 use Rattle.hs_log.specs.Log.{is_born, has_header, texts_of as texts_in_log, is_broken, last_in, IsWholeLog as IsWhole}
 use Rattle.hs_top.specs.declared.damage.Damage.{Damage}

@@ -1,5 +1,5 @@
 -- What a program at work stands for.
-use Rattle.std.specs.Prelude.{◌≡◌, ℕ, ◌<◌, ◌≤◌, Bool, true, false, List, [], ◌++◌, None}
+use Rattle.std.specs.Prelude.{◌≡◌, ℕ, ◌<◌, Bool, true, false, List, [], ◌++◌, None}
 use Rattle.hs_host.specs.declared.source.Source as source
 use Rattle.hs_host.specs.declared.host.Host as host
 use Rattle.hs_host.specs.Files.{Five, with_, IsOpen}
@@ -8,7 +8,8 @@ use Rattle.hs_host.specs.declared.file_kind.FileKind.TheVariants.{Log}
 use Rattle.hs_entries.specs.declared.item.Item.{Item}
 use Rattle.hs_entries.specs.declared.item.Item.TheVariants as item
 use Rattle.hs_entries.specs.Left.{RunsOut, KeepsRoom}
-use Rattle.hs_entries.specs.Reader.{AgreesWith, ahead, has_ended, kept as fault_kept, left, left_items, left_whole, room}
+use Rattle.hs_entries.specs.declared.reader.EntryReader.{EntryReader}
+use Rattle.hs_entries.specs.Reader.{AgreesWith, ahead, has_ended, kept as fault_kept, left, left_items, left_whole, next_number, room}
 use Rattle.hs_log.specs.declared.log.Log.{Log as Kept}
 use Rattle.hs_log.specs.Log.{IsLog, HasRoom, epoch_in, last_in, texts_of as texts_in_log}
 use Rattle.hs_top.specs.declared.running.Running.{Running}
@@ -33,22 +34,14 @@ pub record Stands {H : Type 0} (s : source.Ghosts H) (g : host.Ghosts H) (kept :
   pub room : HasRoom commits kept
   pub log : Told s g h → IsLog (g.history h) (g.files h) kept
 
--- Output and files were used: the input is as before, no count of faults fell, and of the files only the log was changed.
-pub record UsesWork {H : Type 0} (s : source.Ghosts H) (g : host.Ghosts H) (old new : H) : Type 0 where
-  pub standing : g.standing new ≡ g.standing old
-  pub unread : s.unread new ≡ s.unread old
-  pub input_faults : s.input_faults new ≡ s.input_faults old
-  pub output_later : g.output_faults old ≤ g.output_faults new
-  pub disk_later : g.disk_faults old ≤ g.disk_faults new
-  pub others : Told s g old → OnlyLog (g.files old) (g.files new)
-
--- Input and output were used, and no file.
-pub record UsesStreams {H : Type 0} (s : source.Ghosts H) (g : host.Ghosts H) (old new : H) : Type 0 where
-  pub standing : g.standing new ≡ g.standing old
-  pub files : g.files new ≡ g.files old
-  pub disk_faults : g.disk_faults new ≡ g.disk_faults old
-  pub input_later : s.input_faults old ≤ s.input_faults new
-  pub output_later : g.output_faults old ≤ g.output_faults new
+-- a reader has the same ahead of it, and keeps what it kept
+pub record IsSameReader (old new : EntryReader) : Type 0 where
+  pub left : (rest : List ℕ) → left new rest ≡ left old rest
+  pub ahead : ahead new ≡ ahead old
+  pub room : room new ≡ room old
+  pub number : next_number new ≡ next_number old
+  pub kept : fault_kept new ≡ fault_kept old
+  pub ended : has_ended new ≡ has_ended old
 
 abbrev pub state_of : Work → State
 state_of w = record { sessions = w.sessions; last = last_in w.log; database = w.database }

@@ -13,8 +13,9 @@ ghost use Rattle.hs_top.specs.Crash.{IsLater};
 ghost use Rattle.hs_top.specs.Database.{performed, executed};
 ghost use Rattle.hs_top.specs.Holding.{IsHandedOver, IsHeld, IsLogging, IsStep, IsAcknowledging, LeavesFront};
 ghost use Rattle.hs_top.specs.Machine.{WritesPrefix, step_of, logged, last_after, if_commit, commits_after};
-ghost use Rattle.hs_top.specs.Running.{Stands, UsesWork, state_of, texts_in};
-ghost use Rattle.hs_top.specs.Stop.{OutputStops, DiskStops, WorkStops};
+ghost use Rattle.hs_top.specs.Running.{Stands, state_of, texts_in};
+ghost use Rattle.hs_top.specs.Stop.{DiskStops};
+ghost use Rattle.hs_top.specs.Used.{HandsOver, Works};
 
 use crate::commit_text::write_commit;
 use crate::database::{Database, sorted};
@@ -49,8 +50,7 @@ pub fn answer<H: Host>(
     ensures moments { Told H.Source H.Host.own host.old → IsNamed item → (least : ℕ) (before : List ℕ) (rest : List (List ℕ)) → IsAcknowledging least before (H.files host.old) (H.written host.old) output.old work.old.database.commits → Since (IsHeld least (texts_in (H.files host.old) ++ ((step_of item (state_of work.old)).texts ++ rest)) before) (H.history host.old) (H.history host.new) }
     ensures alone { Told H.Source H.Host.own host.old → Since (IsLater (H.history host.old).now) (H.history host.old) (H.history host.new) }
     ensures telling { Told H.Source H.Host.own host.old → IsNamed item → (least : ℕ) (before : List ℕ) → IsAcknowledging least before (H.files host.old) (H.written host.old) output.old work.old.database.commits → OnOk result (IsAcknowledging least before (H.files host.new) (H.written host.new) output.new work.new.database.commits) }
-    ensures uses { UsesWork H.Source H.Host.own host.old host.new }
-    ensures stops { IfErr result (WorkStops H.Source H.Host.own host.old host.new) }
+    ensures ends { Works H.Source H.Host.own host.old host.new result }
 {
     match perform(alloc, item, work, output, host) {
         Ok(()) => flush_when_large(output, host),
@@ -88,8 +88,7 @@ fn perform<H: Host>(
     ensures front { H.tells → WritesPrefix (H.written host.old) (H.written host.new) (output.old ++ printed (step_of item (state_of work.old)).lines) }
     ensures left { H.tells → OnErr result (LeavesFront (H.written host.old) (H.written host.new) output.old output.new (printed ((step_of item (state_of work.old)).lines)) ((step_of item (state_of work.old)).texts)) }
     ensures moments { Told H.Source H.Host.own host.old → Since (IsStep (H.history host.old).now (output.old ++ printed (step_of item (state_of work.old)).lines) (texts_in (H.files host.old)) (step_of item (state_of work.old)).texts) (H.history host.old) (H.history host.new) }
-    ensures uses { UsesWork H.Source H.Host.own host.old host.new }
-    ensures stops { IfErr result (WorkStops H.Source H.Host.own host.old host.new) }
+    ensures ends { Works H.Source H.Host.own host.old host.new result }
 {
     match item {
         Item::Entry {
@@ -129,8 +128,7 @@ fn enter<H: Host>(
     ensures front { H.tells → WritesPrefix (H.written host.old) (H.written host.new) (output.old ++ printed (step_of (Item.Entry number name.now text.now 0) (state_of work.old)).lines) }
     ensures left { H.tells → OnErr result (LeavesFront (H.written host.old) (H.written host.new) output.old output.new (printed ((step_of (Item.Entry number name.now text.now 0) (state_of work.old)).lines)) ((step_of (Item.Entry number name.now text.now 0) (state_of work.old)).texts)) }
     ensures moments { Told H.Source H.Host.own host.old → Since (IsStep (H.history host.old).now (output.old ++ printed (step_of (Item.Entry number name.now text.now 0) (state_of work.old)).lines) (texts_in (H.files host.old)) (step_of (Item.Entry number name.now text.now 0) (state_of work.old)).texts) (H.history host.old) (H.history host.new) }
-    ensures uses { UsesWork H.Source H.Host.own host.old host.new }
-    ensures stops { IfErr result (WorkStops H.Source H.Host.own host.old host.new) }
+    ensures ends { Works H.Source H.Host.own host.old host.new result }
 {
     let Some(session) = work.sessions.admit(name)? else {
         output.push_reply(number, name.as_str(), &Reply::Refused(Refusal::Sessions))?;
@@ -174,8 +172,7 @@ fn execute<H: Host>(
     ensures front { H.tells → WritesPrefix (H.written host.old) (H.written host.new) (output.old ++ printed (reply_lines number name.now (performed database.old statement).reply)) }
     ensures left { H.tells → OnErr result (LeavesFront (H.written host.old) (H.written host.new) output.old output.new (printed (reply_lines number name.now (performed database.old statement).reply)) (logged (last_in log.old) session statement (performed database.old statement).reply)) }
     ensures moments { Told H.Source H.Host.own host.old → Since (IsStep (H.history host.old).now (output.old ++ printed (reply_lines number name.now (performed database.old statement).reply)) (texts_in (H.files host.old)) (logged (last_in log.old) session statement (performed database.old statement).reply)) (H.history host.old) (H.history host.new) }
-    ensures uses { UsesWork H.Source H.Host.own host.old host.new }
-    ensures stops { IfErr result (WorkStops H.Source H.Host.own host.old host.new) }
+    ensures ends { Works H.Source H.Host.own host.old host.new result }
 {
     match statement {
         Some(Statement::Select { table }) => {
@@ -275,8 +272,7 @@ fn select<H: Host>(
     ensures front { H.tells → WritesPrefix (H.written host.old) (H.written host.new) (output.old ++ printed (reply_lines number session.now (executed database.now (Statement.Select name)).reply)) }
     ensures moments { H.tells → Since (IsHandedOver (H.history host.old).now (output.old ++ printed (reply_lines number session.now (executed database.now (Statement.Select name)).reply))) (H.history host.old) (H.history host.new) }
     ensures left { H.tells → OnErr result (WritesPrefix (H.written host.old) (H.written host.new ++ output.new) (output.old ++ printed (reply_lines number session.now (executed database.now (Statement.Select name)).reply))) }
-    ensures uses { UsesOutput H.Source H.Host.own host.old host.new }
-    ensures stops { IfErr result (OutputStops H.Source H.Host.own host.old host.new) }
+    ensures ends { HandsOver H.Source H.Host.own host.old host.new result }
 {
     match database.tables.table(name.as_str()) {
         Some(table) => push_answer(alloc, number, session, table, output, host),
@@ -301,8 +297,7 @@ fn push_answer<H: Host>(
     ensures front { H.tells → WritesPrefix (H.written host.old) (H.written host.new) (output.old ++ printed (answer_lines number session.now table.now)) }
     ensures moments { H.tells → Since (IsHandedOver (H.history host.old).now (output.old ++ printed (answer_lines number session.now table.now))) (H.history host.old) (H.history host.new) }
     ensures left { H.tells → OnErr result (WritesPrefix (H.written host.old) (H.written host.new ++ output.new) (output.old ++ printed (answer_lines number session.now table.now))) }
-    ensures uses { UsesOutput H.Source H.Host.own host.old host.new }
-    ensures stops { IfErr result (OutputStops H.Source H.Host.own host.old host.new) }
+    ensures ends { HandsOver H.Source H.Host.own host.old host.new result }
 {
     let rows = sorted(alloc, table)?;
     push_rows(number, session, rows.as_slice(), output, host)?;
@@ -328,8 +323,7 @@ fn push_rows<H: Host>(
     ensures front { H.tells → WritesPrefix (H.written host.old) (H.written host.new) (output.old ++ printed (rows_lines number session.now (map (λ r. r.now) rows.now))) }
     ensures moments { H.tells → Since (IsHandedOver (H.history host.old).now (output.old ++ printed (rows_lines number session.now (map (λ r. r.now) rows.now)))) (H.history host.old) (H.history host.new) }
     ensures left { H.tells → OnErr result (WritesPrefix (H.written host.old) (H.written host.new ++ output.new) (output.old ++ printed (rows_lines number session.now (map (λ r. r.now) rows.now)))) }
-    ensures uses { UsesOutput H.Source H.Host.own host.old host.new }
-    ensures stops { IfErr result (OutputStops H.Source H.Host.own host.old host.new) }
+    ensures ends { HandsOver H.Source H.Host.own host.old host.new result }
 {
     for row in rows {
         output.push_row(number, session, row.as_slice())?;

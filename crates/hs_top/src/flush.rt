@@ -1,10 +1,9 @@
 // Hands output over to the host.
 ghost use Rattle.std.specs.Prelude.{◌≡◌, [], ◌++◌, OnOk, OnErr, IfErr, MatchResult};
 ghost use Rattle.hs_host.specs.Moments.{Since};
-ghost use Rattle.hs_host.specs.Used.{UsesOutput};
 ghost use Rattle.hs_top.specs.Holding.{IsHandedOver};
 ghost use Rattle.hs_top.specs.Machine.{WritesPrefix};
-ghost use Rattle.hs_top.specs.Stop.{OutputStops};
+ghost use Rattle.hs_top.specs.Used.{HandsOver};
 
 use crate::output::Output;
 use crate::stop::Stop;
@@ -19,9 +18,8 @@ pub fn flush<H: Host>(output: &mut Output, host: &mut H) -> Result<(), Stop>
     ensures done { H.tells → OnOk result (H.written host.new ≡ H.written host.old ++ output.old) }
     ensures front { H.tells → WritesPrefix (H.written host.old) (H.written host.new) output.old }
     ensures moments { H.tells → Since (IsHandedOver (H.history host.old).now output.old) (H.history host.old) (H.history host.new) }
-    ensures uses { UsesOutput H.Source H.Host.own host.old host.new }
+    ensures ends { HandsOver H.Source H.Host.own host.old host.new result }
     ensures calm { MatchResult result (λ _. H.output_faults host.new ≡ H.output_faults host.old) (λ stop. stop ≡ Stop.NoMemory → H.output_faults host.new ≡ H.output_faults host.old) }
-    ensures stops { IfErr result (OutputStops H.Source H.Host.own host.old host.new) }
 {
     let result = write_all(host, output.as_bytes());
     output.clear();
@@ -35,9 +33,8 @@ pub fn flush_when_large<H: Host>(output: &mut Output, host: &mut H) -> Result<()
     ensures empty { OnErr result (output.new ≡ []) }
     ensures front { H.tells → WritesPrefix (H.written host.old) (H.written host.new) output.old }
     ensures moments { H.tells → Since (IsHandedOver (H.history host.old).now output.old) (H.history host.old) (H.history host.new) }
-    ensures uses { UsesOutput H.Source H.Host.own host.old host.new }
+    ensures ends { HandsOver H.Source H.Host.own host.old host.new result }
     ensures calm { MatchResult result (λ _. H.output_faults host.new ≡ H.output_faults host.old) (λ stop. stop ≡ Stop.NoMemory → H.output_faults host.new ≡ H.output_faults host.old) }
-    ensures stops { IfErr result (OutputStops H.Source H.Host.own host.old host.new) }
 {
     if output.len() < MOST_GATHERED {
         return Ok(());
@@ -50,9 +47,8 @@ fn write_all<H: Host>(host: &mut H, bytes: &[u8]) -> Result<(), Stop>
     ensures done { H.tells → OnOk result (H.written host.new ≡ H.written host.old ++ bytes.now) }
     ensures front { H.tells → WritesPrefix (H.written host.old) (H.written host.new) bytes.now }
     ensures moments { H.tells → Since (IsHandedOver (H.history host.old).now bytes.now) (H.history host.old) (H.history host.new) }
-    ensures uses { UsesOutput H.Source H.Host.own host.old host.new }
+    ensures ends { HandsOver H.Source H.Host.own host.old host.new result }
     ensures calm { MatchResult result (λ _. H.output_faults host.new ≡ H.output_faults host.old) (λ stop. stop ≡ Stop.NoMemory → H.output_faults host.new ≡ H.output_faults host.old) }
-    ensures stops { IfErr result (OutputStops H.Source H.Host.own host.old host.new) }
 {
     let mut rest = bytes;
     while !rest.is_empty() {

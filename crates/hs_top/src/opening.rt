@@ -3,13 +3,14 @@ ghost use Rattle.std.specs.Prelude.{◌≡◌, ℕ, ◌+◌, ◌^◌, ◌<◌, t
 ghost use Rattle.hs_host.specs.Disk.{settled};
 ghost use Rattle.hs_host.specs.Files.{IsOpen};
 ghost use Rattle.hs_host.specs.Moments.{Since, disk_of};
-ghost use Rattle.hs_host.specs.Used.{Told, ReadsFiles, Moves};
+ghost use Rattle.hs_host.specs.Used.{Told, Moves};
 ghost use Rattle.hs_log.specs.Log.{IsUnbornOrNew, is_born, has_header, is_broken, texts_of};
 ghost use Rattle.hs_log.specs.LogReading.{IsReading, TakesText, count_in, left_in};
 ghost use Rattle.hs_top.specs.Crash.{IsFound, IsLater};
 ghost use Rattle.hs_top.specs.Opening.{redone, given, opened_of, texts_at, opened_by, state_by};
 ghost use Rattle.hs_top.specs.Running.{Stands, texts_in};
 ghost use Rattle.hs_top.specs.Stop.{OpenStops};
+ghost use Rattle.hs_top.specs.Used.{ReadsLog};
 
 use crate::commit_text::read_commit;
 use crate::database::Database;
@@ -59,8 +60,7 @@ pub fn open_log<H: Host>(alloc: Global, host: &mut H) -> Result<Opening, Stop>
 fn read_log<H: Host>(alloc: Global, host: &mut H, reader: LogReader) -> Result<Opening, Stop>
     requires reading { IsReading H.Source H.Host.own reader host.old }
     requires none { count_in reader ≡ 0 }
-    requires header { Told H.Source H.Host.own host.old → has_header 1 (H.files host.old).log ≡ true }
-    requires texts { Told H.Source H.Host.own host.old → left_in reader (H.files host.old).log ≡ texts_of (H.files host.old).log }
+    requires begun { Told H.Source H.Host.own host.old → (has_header 1 (H.files host.old).log ≡ true) × (left_in reader (H.files host.old).log ≡ texts_of (H.files host.old).log) }
     ensures opened { Told H.Source H.Host.own host.old → IfOk result (λ o. opened_of (H.files host.old).log ≡ Ok (opened_by o)) }
     ensures damaged { Told H.Source H.Host.own host.old → (number : ℕ) → IsErrOf result (Stop.Damaged number) → opened_of (H.files host.old).log ≡ Err number }
     ensures untouched { Told H.Source H.Host.own host.old → (number : ℕ) → IsErrOf result (Stop.Damaged number) → H.files host.new ≡ H.files host.old }
@@ -92,8 +92,7 @@ fn redo_all<H: Host>(alloc: Global, host: &mut H, reader: &mut LogReader) -> Res
     ensures whole { Told H.Source H.Host.own host.old → OnOk result (TakesText (H.files host.new).log reader.new false reader.new) }
     ensures reading { OnOk result (IsReading H.Source H.Host.own reader.new host.new) }
     ensures counted { IfOk result (λ replay. replay.database.commits ≡ count_in reader.new) }
-    ensures reads { ReadsFiles H.Source H.Host.own host.old host.new }
-    ensures stops { IfErr result (OpenStops H.Source H.Host.own host.old host.new) }
+    ensures ends { ReadsLog H.Source H.Host.own host.old host.new result }
 {
     let mut replay = Replay {
         database: Database::new(alloc),

@@ -9,12 +9,12 @@ ghost use Rattle.hs_entries.specs.Items.{items};
 ghost use Rattle.hs_top.specs.Command.{database_of};
 ghost use Rattle.hs_top.specs.Crash.{IsSafe, IsKept, IsLater, Survives};
 ghost use Rattle.hs_top.specs.Holding.{IsHeld};
-ghost use Rattle.hs_top.specs.Mounting.{Mounts, MountStops};
+ghost use Rattle.hs_top.specs.Mounting.{Mounts};
 ghost use Rattle.hs_top.specs.Machine.{WritesPrefix, transcript, transcript_within, machine, texts_of};
 ghost use Rattle.hs_top.specs.Opening.{Opened, nothing_logged, opened_of, opened_by, begun_with, texts_at, texts_from, ended_with, shown, IsWholeLog};
-ghost use Rattle.hs_host.specs.Used.{Told, UsesAll};
+ghost use Rattle.hs_host.specs.Used.{Told};
 ghost use Rattle.hs_top.specs.Running.{Stands, OnlyLog, texts_in, is_damaged};
-ghost use Rattle.hs_top.specs.Stop.{RunStops};
+ghost use Rattle.hs_top.specs.Used.{TakesTurns};
 
 use crate::command::database_of;
 use crate::damage::Damage;
@@ -121,8 +121,7 @@ fn mount<H: Host>(name: &str, host: &mut H) -> Result<(), Status>
     ensures named { OnOk result ((H.standing host.new).name ≡ Some name.now) }
     ensures named_at { IfErr result (λ status. (status ≡ Status.NoMemory → ⊥) → (H.standing host.new).name ≡ Some name.now) }
     ensures own { H.tells → OnOk result (IsForeign (H.standing host.old) → ⊥) }
-    ensures mounts { Mounts H.Source H.Host.own host.old host.new }
-    ensures stops { IfErr result (MountStops H.Source H.Host.own host.old host.new) }
+    ensures mounts { Mounts H.Source H.Host.own host.old host.new result }
 {
     match host.mount(name) {
         Ok(()) => Ok(()),
@@ -141,11 +140,8 @@ fn answer_all<H: Host>(alloc: Global, opening: Opening, host: &mut H) -> Result<
     ensures before_too_long { H.tells → IsErrOf result Stop.TooLong → (2 ^ 30 < length (H.unread host.old)) × (H.written host.new ≡ H.written host.old ++ transcript_within (2 ^ 30) (begun_with (opened_by opening)) (H.unread host.old)) }
     ensures log { Told H.Source H.Host.own host.old → OnOk result (IsWholeLog (H.files host.new).log (texts_in (H.files host.old) ++ texts_from (opened_by opening) (H.unread host.old))) }
     ensures moments { Told H.Source H.Host.own host.old → Since (IsHeld (length (texts_in (H.files host.old))) (texts_in (H.files host.old) ++ texts_from (opened_by opening) (H.unread host.old)) (H.written host.old)) (H.history host.old) (H.history host.new) }
-    ensures alone { Told H.Source H.Host.own host.old → Since (IsLater (H.history host.old).now) (H.history host.old) (H.history host.new) }
-    ensures others { Told H.Source H.Host.own host.old → OnlyLog (H.files host.old) (H.files host.new) }
     ensures read { H.tells → OnOk result ((H.unread host.new ≡ []) × (length (H.unread host.old) ≤ 2 ^ 30)) }
-    ensures uses { UsesAll H.Source H.Host.own host.old host.new }
-    ensures stops { IfErr result (RunStops H.Source H.Host.own host.old host.new) }
+    ensures ends { TakesTurns H.Source H.Host.own host.old host.new result }
 {
     let mut output = Output::new(alloc);
     output.push_opened(opening.database.commits)?;

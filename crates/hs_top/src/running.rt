@@ -2,15 +2,14 @@
 ghost use Rattle.std.specs.Prelude.{◌≡◌, ℕ, ◌<◌, ◌≤◌, List, [], ◌++◌, None, true, false, IfOk, OnOk, IfErr, IsErrOf};
 ghost use Rattle.hs_host.specs.Host.{Rose};
 ghost use Rattle.hs_host.specs.Moments.{Since, IsReading};
-ghost use Rattle.hs_host.specs.Used.{Told, UsesInput, UsesOutput, UsesAll};
+ghost use Rattle.hs_host.specs.Used.{Told, UsesInput};
 ghost use Rattle.hs_entries.specs.Left.{IsBeyond};
 ghost use Rattle.hs_entries.specs.Taking.{TakesItem, Counts};
-ghost use Rattle.hs_entries.specs.Reader.{AgreesWith, ahead, has_ended, kept, left, next_number, room};
-ghost use Rattle.hs_top.specs.Crash.{IsLater};
+ghost use Rattle.hs_entries.specs.Reader.{AgreesWith, kept, left};
 ghost use Rattle.hs_top.specs.Holding.{IsHandedOver, IsHeld, IsAcknowledging};
 ghost use Rattle.hs_top.specs.Machine.{WritesPrefix, rest_of, lines_of, texts_of};
-ghost use Rattle.hs_top.specs.Running.{is_end, UsesStreams};
-ghost use Rattle.hs_top.specs.Stop.{OutputStops, ReadStops, RunStops};
+ghost use Rattle.hs_top.specs.Running.{is_end, IsSameReader};
+ghost use Rattle.hs_top.specs.Used.{HandsOver, ReadsItem, TakesTurns};
 
 use crate::answer::answer;
 use crate::flush::flush;
@@ -31,7 +30,7 @@ pub struct Running {
 }
 
 impl Running {
-    ghost use Rattle.hs_top.specs.Running.{machine_of, machine_within, texts_in, OnlyLog, IsTooLong, IsSane, GoesOn, HasTurned};
+    ghost use Rattle.hs_top.specs.Running.{machine_of, machine_within, texts_in, IsTooLong, IsSane, GoesOn, HasTurned};
 
     /// Takes a turn: reads the next item and answers it. Answers whether there was one, so `false` at the end of the input. An
     /// `Err` is why the run stops.
@@ -43,11 +42,8 @@ impl Running {
         ensures too_long { H.tells → IsErrOf result Stop.TooLong → IsTooLong self.old (H.unread host.old) × (H.written host.new ≡ H.written host.old ++ (self.old.output ++ lines_of (machine_within self.old (H.unread host.old)))) }
         ensures front { H.tells → WritesPrefix (H.written host.old) (H.written host.new) (self.old.output ++ rest_of (machine_of self.old (H.unread host.old))) }
         ensures moments { Told H.Source H.Host.own host.old → (least : ℕ) (before : List ℕ) → IsAcknowledging least before (H.files host.old) (H.written host.old) self.old.output self.old.work.database.commits → Since (IsHeld least (texts_in (H.files host.old) ++ texts_of (machine_of self.old (H.unread host.old))) before) (H.history host.old) (H.history host.new) }
-        ensures alone { Told H.Source H.Host.own host.old → Since (IsLater (H.history host.old).now) (H.history host.old) (H.history host.new) }
         ensures telling { Told H.Source H.Host.own host.old → (least : ℕ) (before : List ℕ) → IsAcknowledging least before (H.files host.old) (H.written host.old) self.old.output self.old.work.database.commits → OnOk result (IsAcknowledging least before (H.files host.new) (H.written host.new) self.new.output self.new.work.database.commits) }
-        ensures others { Told H.Source H.Host.own host.old → OnlyLog (H.files host.old) (H.files host.new) }
-        ensures uses { UsesAll H.Source H.Host.own host.old host.new }
-        ensures stops { IfErr result (RunStops H.Source H.Host.own host.old host.new) }
+        ensures ends { TakesTurns H.Source H.Host.own host.old host.new result }
     {
         let item = match next_item(&mut self.reader, &mut self.output, host) {
             Ok(item) => item,
@@ -87,8 +83,7 @@ fn next_item<H: Host>(
     ensures done { H.tells → OnOk result (H.written host.new ++ output.new ≡ H.written host.old ++ output.old) }
     ensures front { H.tells → WritesPrefix (H.written host.old) (H.written host.new) output.old }
     ensures moments { H.tells → Since (IsHandedOver (H.history host.old).now output.old) (H.history host.old) (H.history host.new) }
-    ensures uses { UsesStreams H.Source H.Host.own host.old host.new }
-    ensures stops { IfErr result (ReadStops H.Source H.Host.own host.old host.new) }
+    ensures ends { ReadsItem H.Source H.Host.own host.old host.new result }
 {
     flush_unless_ready(reader, output, host)?;
     match read_next(reader, host) {
@@ -112,17 +107,11 @@ fn flush_unless_ready<H: Host>(
     output: &mut Output,
     host: &mut H,
 ) -> Result<(), Stop>
-    ensures left { (rest : List ℕ) → left reader.new rest ≡ left reader.old rest }
-    ensures ahead { ahead reader.new ≡ ahead reader.old }
-    ensures room { room reader.new ≡ room reader.old }
-    ensures number { next_number reader.new ≡ next_number reader.old }
-    ensures kept { kept reader.new ≡ kept reader.old }
-    ensures ended { has_ended reader.new ≡ has_ended reader.old }
+    ensures reader { IsSameReader reader.old reader.new }
     ensures done { H.tells → OnOk result (H.written host.new ++ output.new ≡ H.written host.old ++ output.old) }
     ensures front { H.tells → WritesPrefix (H.written host.old) (H.written host.new) output.old }
     ensures moments { H.tells → Since (IsHandedOver (H.history host.old).now output.old) (H.history host.old) (H.history host.new) }
-    ensures uses { UsesOutput H.Source H.Host.own host.old host.new }
-    ensures stops { IfErr result (OutputStops H.Source H.Host.own host.old host.new) }
+    ensures ends { HandsOver H.Source H.Host.own host.old host.new result }
 {
     if reader.is_ready() {
         return Ok(());

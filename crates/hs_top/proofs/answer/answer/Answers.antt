@@ -10,10 +10,10 @@ use Rattle.hs_top.specs.Machine.{step_of}
 use Rattle.hs_top.specs.Running.{state_of, texts_in}
 use Rattle.hs_top.proofs.Acknowledged.{one_text}
 use Rattle.hs_top.proofs.Alone.{alone_stepping, alone_printing, alone_on}
-use Rattle.hs_top.proofs.Holding.{gathered_step, held_failed, held_step, held_telling, stands_handed, step_disks, telling_step, telling_handed, told_through, work_output}
+use Rattle.hs_top.proofs.Holding.{gathered_step, held_failed, held_step, held_telling, stands_handed, step_disks, telling_step, telling_handed, told_through}
 use Rattle.hs_top.proofs.Prefixes.{front_so_far, front_through}
-use Rattle.hs_top.proofs.Stops.{stops_for, any_ok, ok_weaker, output_work, work_handed}
-use Rattle.hs_top.specs.Stop.{OutputStops, WorkStops}
+use Rattle.hs_top.proofs.Stops.{any_ok, ok_weaker}
+use Rattle.hs_top.proofs.Used.{hands_work, work_stopped}
 use Rattle.hs_top.proofs.answer.answer.Goals as goal
 use Rattle.hs_top.proofs.answer.answer.Goals.{After-perform, After-flush_when_large, After-hand_over}
 
@@ -50,7 +50,7 @@ left g c told named least before t =
     c.in-Ok.ensures.state (c.in-Ok.ensures.texts told) (c.in-Ok.ensures.done told.tells) (c.perform.ensures.front told.tells).grown t
 
 still : (g : _) (c : After-perform g) → Told g.H.Source g.H.Host c.args.host.now → Told g.H.Source g.H.Host c.perform.new.host
-still g c t = record { tells = t.tells; honest = subst IsHonest (sym c.perform.ensures.uses.standing) t.honest }
+still g c t = record { tells = t.tells; honest = subst IsHonest (sym c.perform.ensures.ends.uses.standing) t.honest }
 
 -- with the moments while output is handed over
 handed : (g : _) (c : After-flush_when_large g) → Told g.H.Source g.H.Host c.args.host.now → IsNamed c.args.item
@@ -111,34 +111,25 @@ returns-in-Ok-clause-moments g c = handed g (goal.at.returns-in-Ok-clause-moment
 
 pub returns-in-Ok-clause-stands : goal.returns-in-Ok-clause-stands
 returns-in-Ok-clause-stands g c =
-    let after = stands_handed c.perform.new.work.log c.perform.new.work.database.commits c.perform.new.host c.flush_when_large.new.host c.flush_when_large.ensures.uses.standing c.flush_when_large.ensures.uses.files c.flush_when_large.ensures.moments c.in-Ok.ensures.stands in
+    let after = stands_handed c.perform.new.work.log c.perform.new.work.database.commits c.perform.new.host c.flush_when_large.new.host c.flush_when_large.ensures.ends.uses.standing c.flush_when_large.ensures.ends.uses.files c.flush_when_large.ensures.moments c.in-Ok.ensures.stands in
     any_ok c.flush_when_large.result after
 
 pub returns-in-Ok-clause-telling : goal.returns-in-Ok-clause-telling
 returns-in-Ok-clause-telling g c = λ told named least before t.
     ok_weaker c.flush_when_large.result
     (λ done. telling_handed least before (g.H.Host.files c.perform.new.host) (g.H.Host.files c.flush_when_large.new.host) (g.H.Host.written c.perform.new.host) (g.H.Host.written c.flush_when_large.new.host) c.perform.new.output c.flush_when_large.new.output c.perform.new.work.database.commits
-    c.flush_when_large.ensures.uses.files done (c.flush_when_large.ensures.front told.tells).grown
+    c.flush_when_large.ensures.ends.uses.files done (c.flush_when_large.ensures.front told.tells).grown
     (left g (goal.at.returns-in-Ok-clause-telling g c).After-flush_when_large told named least before t))
     (c.flush_when_large.ensures.done told.tells)
 
 pub returns-in-Ok-clause-alone : goal.returns-in-Ok-clause-alone
 returns-in-Ok-clause-alone g c = λ told. alone_on (alone_stepping (c.perform.ensures.moments told)) (alone_printing (c.flush_when_large.ensures.moments told.tells))
 
-pub returns-in-Ok-clause-uses : goal.returns-in-Ok-clause-uses
-returns-in-Ok-clause-uses g c = work_output c.perform.ensures.uses c.flush_when_large.ensures.uses
+pub returns-in-Ok-clause-ends : goal.returns-in-Ok-clause-ends
+returns-in-Ok-clause-ends g c = hands_work c.perform.ensures.ends.uses c.flush_when_large.ensures.ends
 
-pub returns-in-Ok-clause-stops : goal.returns-in-Ok-clause-stops
-returns-in-Ok-clause-stops g c =
-    stops_for (OutputStops g.H.Source g.H.Host c.perform.new.host c.flush_when_large.new.host) (WorkStops g.H.Source g.H.Host c.args.host.now c.flush_when_large.new.host) c.flush_when_large.result
-    (λ stop. output_work g.H.Source g.H.Host stop c.args.host.now c.perform.new.host c.flush_when_large.new.host c.flush_when_large.new.host c.perform.ensures.uses.output_later (omega arith)) c.flush_when_large.ensures.stops
-
-pub returns-in-Err-clause-uses : goal.returns-in-Err-clause-uses
-returns-in-Err-clause-uses g c = work_output c.perform.ensures.uses c.hand_over.ensures.uses
-
-pub returns-in-Err-clause-stops : goal.returns-in-Err-clause-stops
-returns-in-Err-clause-stops g c =
-    work_handed g.H.Source g.H.Host c.in-Err.stop c.args.host.now c.perform.new.host c.hand_over.new.host c.hand_over.ensures.uses.output_later c.hand_over.ensures.uses.disk_faults c.in-Err.ensures.stops
+pub returns-in-Err-clause-ends : goal.returns-in-Err-clause-ends
+returns-in-Err-clause-ends g c = work_stopped c.in-Err.stop c.in-Err.ensures.ends c.hand_over.ensures.uses
 
 pub returns-in-Err-clause-front : goal.returns-in-Err-clause-front
 returns-in-Err-clause-front g c = λ told.

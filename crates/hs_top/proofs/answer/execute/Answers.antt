@@ -1,4 +1,4 @@
-use Rattle.std.proofs.Common.{◌≡◌, ◌++◌, Option, Some, inl, inr, sym, ap, subst, ◌∙◌, arith}
+use Rattle.std.proofs.Common.{◌≡◌, ◌++◌, Option, Some, inl, inr, sym, ap, subst, ◌∙◌}
 use Rattle.hs_host.specs.Moments.{Since}
 use Rattle.hs_host.proofs.Passing.{since_weaker}
 use Rattle.hs_top.specs.declared.statement.Statement.{Statement}
@@ -9,9 +9,9 @@ use Rattle.hs_machine.specs.Lines.{printed}
 use Rattle.hs_machine.specs.Replies.{reply_lines}
 use Rattle.hs_top.specs.Machine.{WritesPrefix, logged}
 use Rattle.hs_top.specs.Running.{texts_in}
-use Rattle.hs_top.proofs.Holding.{stands_handed, output_alone, disk_alone}
-use Rattle.hs_top.proofs.Stops.{stops_for, any_ok, err_weaker, output_work, disk_work}
-use Rattle.hs_top.specs.Stop.{OutputStops, DiskStops, WorkStops}
+use Rattle.hs_top.proofs.Holding.{stands_handed}
+use Rattle.hs_top.proofs.Stops.{any_ok, err_weaker}
+use Rattle.hs_top.proofs.Used.{hands_alone, logs_alone}
 use Rattle.hs_top.proofs.Queries.{query_logs}
 use Rattle.hs_top.proofs.answer.execute.Goals as goal
 use Rattle.hs_top.proofs.answer.execute.Goals.{After-select}
@@ -32,16 +32,11 @@ returns-in-Some-Select-clause-moments g c = λ told. asked g (goal.at.returns-in
 
 pub returns-in-Some-Select-clause-stands : goal.returns-in-Some-Select-clause-stands
 returns-in-Some-Select-clause-stands g c =
-    let after = stands_handed c.args.log.now c.args.database.now.commits c.args.host.now c.select.new.host c.select.ensures.uses.standing c.select.ensures.uses.files c.select.ensures.moments c.requires.stands in
+    let after = stands_handed c.args.log.now c.args.database.now.commits c.args.host.now c.select.new.host c.select.ensures.ends.uses.standing c.select.ensures.ends.uses.files c.select.ensures.moments c.requires.stands in
     any_ok c.select.result after
 
-pub returns-in-Some-Select-clause-uses : goal.returns-in-Some-Select-clause-uses
-returns-in-Some-Select-clause-uses g c = output_alone c.select.ensures.uses
-
-pub returns-in-Some-Select-clause-stops : goal.returns-in-Some-Select-clause-stops
-returns-in-Some-Select-clause-stops g c =
-    stops_for (OutputStops g.H.Source g.H.Host c.args.host.now c.select.new.host) (WorkStops g.H.Source g.H.Host c.args.host.now c.select.new.host) c.select.result
-    (λ stop. output_work g.H.Source g.H.Host stop c.args.host.now c.args.host.now c.select.new.host c.select.new.host (omega arith) (omega arith)) c.select.ensures.stops
+pub returns-in-Some-Select-clause-ends : goal.returns-in-Some-Select-clause-ends
+returns-in-Some-Select-clause-ends g c = hands_alone c.select.ensures.ends
 
 pub returns-in-Some-Create-clause-moments : goal.returns-in-Some-Create-clause-moments
 returns-in-Some-Create-clause-moments g c = λ told.
@@ -53,21 +48,11 @@ returns-in-Some-Insert-clause-moments g c = λ told.
     let is : c.args.statement ≡ Some (Insert c.in-Some-Insert.table c.in-Some-Insert.row) = c.in-Some-Insert.is ∙ ap Some c.in-Some-Insert.field-0-is in
     since_weaker (c.change-in-Some-Insert.ensures.moves.moments told) (λ m l. inr (subst (λ (s : Option Statement). IsLogging (g.H.Host.history c.args.host.now).now (texts_in (g.H.Host.files c.args.host.now)) (logged c.args.log.now.last c.args.session s (performed c.args.database.now s).reply) m) (sym is) l))
 
-pub returns-in-Some-Create-clause-uses : goal.returns-in-Some-Create-clause-uses
-returns-in-Some-Create-clause-uses g c = disk_alone c.change.ensures.moves.uses c.change.ensures.moves.others
+pub returns-in-Some-Create-clause-ends : goal.returns-in-Some-Create-clause-ends
+returns-in-Some-Create-clause-ends g c = logs_alone c.change.result c.change.ensures.moves c.change.ensures.stops
 
-pub returns-in-Some-Insert-clause-uses : goal.returns-in-Some-Insert-clause-uses
-returns-in-Some-Insert-clause-uses g c = disk_alone c.change-in-Some-Insert.ensures.moves.uses c.change-in-Some-Insert.ensures.moves.others
-
-pub returns-in-Some-Create-clause-stops : goal.returns-in-Some-Create-clause-stops
-returns-in-Some-Create-clause-stops g c =
-    stops_for (DiskStops g.H.Source g.H.Host c.args.host.now c.change.new.host) (WorkStops g.H.Source g.H.Host c.args.host.now c.change.new.host) c.change.result
-    (λ stop. disk_work g.H.Source g.H.Host stop c.args.host.now c.args.host.now c.change.new.host c.change.new.host (omega arith) (omega arith)) c.change.ensures.stops
-
-pub returns-in-Some-Insert-clause-stops : goal.returns-in-Some-Insert-clause-stops
-returns-in-Some-Insert-clause-stops g c =
-    stops_for (DiskStops g.H.Source g.H.Host c.args.host.now c.change-in-Some-Insert.new.host) (WorkStops g.H.Source g.H.Host c.args.host.now c.change-in-Some-Insert.new.host) c.change-in-Some-Insert.result
-    (λ stop. disk_work g.H.Source g.H.Host stop c.args.host.now c.args.host.now c.change-in-Some-Insert.new.host c.change-in-Some-Insert.new.host (omega arith) (omega arith)) c.change-in-Some-Insert.ensures.stops
+pub returns-in-Some-Insert-clause-ends : goal.returns-in-Some-Insert-clause-ends
+returns-in-Some-Insert-clause-ends g c = logs_alone c.change-in-Some-Insert.result c.change-in-Some-Insert.ensures.moves c.change-in-Some-Insert.ensures.stops
 
 -- what is gathered where a statement stops
 pub returns-in-Some-Select-clause-left : goal.returns-in-Some-Select-clause-left

@@ -52,5 +52,5 @@ loop-row-preserved g c = record {
   so_far = λ told. handed (g.H.Host.written c.loop-row.host) c.push_row.new.self (g.H.Host.written c.flush_when_large.new.host) c.flush_when_large.new.output _ _ (c.in_ok-flush_when_large.ensures.done told) (left g (goal.at.loop-row-preserved g c).After-flush_when_large told);
   grown = λ told. omega (arith, c.loop-row.invariant.grown told, (c.flush_when_large.ensures.front told).grown);
   moments = on g (goal.at.loop-row-preserved g c).After-flush_when_large;
-  uses = output_on c.loop-row.invariant.uses c.flush_when_large.ensures.uses;
+  uses = output_on c.loop-row.invariant.uses c.flush_when_large.ensures.ends.uses;
 }

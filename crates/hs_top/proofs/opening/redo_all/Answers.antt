@@ -1,13 +1,12 @@
-use Rattle.std.proofs.Common.{◌≡◌, ℕ, ◌+◌, ◌*◌, ◌^◌, ◌<◌, ◌≤◌, Bool, true, false, rules, List, [], ◌∷◌, Ok, Err, refl, sym, ap, subst, ◌∙◌, arith}
+use Rattle.std.proofs.Common.{◌≡◌, ℕ, ◌+◌, ◌*◌, ◌^◌, ◌<◌, ◌≤◌, true, false, rules, List, [], ◌∷◌, Err, sym, ap, subst, ◌∙◌, arith}
 use Rattle.hs_host.specs.Files.{Five}
-use Rattle.hs_host.specs.Used.{Told, ReadsFiles}
+use Rattle.hs_host.specs.Used.{ReadsFiles}
 use Rattle.hs_host.proofs.Used.{told_on, reads_on}
 use Rattle.hs_log.specs.declared.log_fault.LogFault.TheVariants.{Broken}
 use Rattle.hs_log.specs.Log.{is_broken}
 use Rattle.hs_log.specs.LogReading.{GoesOn, TakesText, count_in, left_in, place_in, text_in, total_in}
 use Rattle.hs_log.proofs.Logs.{left_same}
-use Rattle.hs_top.specs.declared.stop.Stop.TheVariants.{Damaged}
-use Rattle.hs_top.specs.Opening.{nothing_logged, replayed, state_by}
+use Rattle.hs_top.specs.Opening.{state_by}
 use Rattle.hs_top.proofs.Replayed.{all_given, broken_given, stopped_given, redone_on, redone_none, no_more_left}
 use Rattle.hs_top.proofs.Stops.{damaged_from}
 use Rattle.hs_top.proofs.opening.redo_all.Goals as goal
@@ -16,17 +15,17 @@ use Rattle.hs_top.proofs.opening.redo_all.Goals.{After-advance, After-text}
 reads : (g : _) (c : After-advance g) → ReadsFiles g.H.Source g.H.Host c.args.host.now c.advance.new.host
 reads g c = reads_on c.loop-replay.invariant.reads c.advance.ensures.reads
 
-pub returns-in_err-advance-clause-reads : goal.returns-in_err-advance-clause-reads
-returns-in_err-advance-clause-reads g c = reads g (goal.at.returns-in_err-advance-clause-reads g c).After-advance
+pub returns-in_err-advance-clause-ends : goal.returns-in_err-advance-clause-ends
+returns-in_err-advance-clause-ends g c = record { reads = reads g (goal.at.returns-in_err-advance-clause-ends g c).After-advance; stops = search rules }
 
-pub returns-in_err-redo-clause-reads : goal.returns-in_err-redo-clause-reads
-returns-in_err-redo-clause-reads g c = reads g (goal.at.returns-in_err-redo-clause-reads g c).After-advance
+pub returns-in_err-redo-clause-ends : goal.returns-in_err-redo-clause-ends
+returns-in_err-redo-clause-ends g c = record { reads = reads g (goal.at.returns-in_err-redo-clause-ends g c).After-advance; stops = search rules }
 
-pub returns-then-not-branch-clause-reads : goal.returns-then-not-branch-clause-reads
-returns-then-not-branch-clause-reads g c = reads g (goal.at.returns-then-not-branch-clause-reads g c).After-advance
+pub returns-then-not-branch-clause-ends : goal.returns-then-not-branch-clause-ends
+returns-then-not-branch-clause-ends g c = record { reads = reads g (goal.at.returns-then-not-branch-clause-ends g c).After-advance; stops = tt }
 
-pub returns-clause-reads : goal.returns-clause-reads
-returns-clause-reads g c = reads g (goal.at.returns-clause-reads g c).After-advance
+pub returns-clause-ends : goal.returns-clause-ends
+returns-clause-ends g c = record { reads = reads g (goal.at.returns-clause-ends g c).After-advance; stops = tt }
 
 pub returns-in_err-advance-clause-damaged : goal.returns-in_err-advance-clause-damaged
 returns-in_err-advance-clause-damaged g c = λ told number is.

@@ -1,26 +1,24 @@
-use Rattle.std.proofs.Common.{◌≡◌, ◌++◌, ◌^◌, List, [], ℕ, length, take, sym, ap, subst, ◌∙◌, arith, append-nil}
-use Rattle.hs_host.specs.Files.{Five, IsHonest, with_}
-use Rattle.hs_host.specs.declared.file_kind.FileKind.TheVariants.{Log}
+use Rattle.std.proofs.Common.{◌≡◌, ◌++◌, ◌^◌, rules, List, [], ℕ, length, take, sym, ap, subst, ◌∙◌, arith, append-nil}
+use Rattle.hs_host.specs.Files.{Five, IsHonest}
 use Rattle.hs_host.specs.Moments.{Since}
 use Rattle.hs_host.specs.Used.{Told}
 use Rattle.hs_host.proofs.Passing.{since_weaker, since_join}
-use Rattle.hs_host.proofs.Used.{all_on, output_all}
 use Rattle.hs_entries.specs.declared.item.Item.{Item}
 use Rattle.hs_entries.specs.Items.{items, whole_items}
 use Rattle.hs_entries.specs.Reader.{left_items, left_whole}
 use Rattle.hs_machine.specs.Lines.{OpenedAt, printed_line}
-use Rattle.hs_top.specs.Crash.{IsLater}
 use Rattle.hs_top.specs.Holding.{IsHeld, IsGathered, IsHandedOver}
 use Rattle.hs_top.specs.Machine.{State, WritesPrefix, machine, transcript, rest_of, lines_of, texts_of}
 use Rattle.hs_top.specs.Opening.{opened_by, begun_with, texts_from, IsWholeLog}
 use Rattle.hs_top.specs.Running.{machine_of, state_of, texts_in, IsTooLong}
-use Rattle.hs_top.proofs.Alone.{alone_printing, alone_on}
-use Rattle.hs_top.proofs.Holding.{first_gathered, last_gathered, held_first, held_telling, stands_handed, only_log, handed_first}
+use Rattle.hs_top.specs.Used.{UsesLog}
+use Rattle.hs_top.proofs.Holding.{first_gathered, last_gathered, held_first, held_telling, stands_handed, handed_first}
 use Rattle.hs_top.proofs.Logged.{whole_log}
 use Rattle.hs_top.proofs.Prefixes.{nothing_yet, front_after}
 use Rattle.hs_top.proofs.Runs.{rest_of-over, texts_of-over}
 use Rattle.hs_top.proofs.Taken.{fresh_items, fresh_whole, fresh_input, over_input, begun_not_ended, none_left}
 use Rattle.hs_top.proofs.Turns.{ended, front_behind}
+use Rattle.hs_top.proofs.Used.{log_none, log_on, output_log}
 use Rattle.hs_top.proofs.run_over.answer_all.Goals as goal
 use Rattle.hs_top.proofs.run_over.answer_all.Goals.{After-new-2, After-turn, After-flush, After-flush-2}
 
@@ -39,10 +37,10 @@ first_state : (g : _) (c : After-new-2 g) → state_of (record { sessions = c.ne
 first_state g c = ap (λ (names : List (List ℕ)). record { sessions = names; last = c.args.opening.log.last; database = c.args.opening.database }) c.new-2.ensures
 
 first_items : (g : _) (c : After-new-2 g) → left_items c.new.result (g.H.Source.unread c.flush.new.host) ≡ items 1 (g.H.Source.unread c.args.host.now)
-first_items g c = fresh_items c.new.result _ c.new.ensures.ended c.new.ensures.ahead c.new.ensures.number ∙ ap (items 1) c.flush.ensures.uses.unread
+first_items g c = fresh_items c.new.result _ c.new.ensures.ended c.new.ensures.ahead c.new.ensures.number ∙ ap (items 1) c.flush.ensures.ends.uses.unread
 
 first_whole : (g : _) (c : After-new-2 g) → left_whole c.new.result (g.H.Source.unread c.flush.new.host) ≡ whole_items 1 (take (2 ^ 30) (g.H.Source.unread c.args.host.now))
-first_whole g c = fresh_whole c.new.result _ (2 ^ 30) c.new.ensures.ended c.new.ensures.ahead c.new.ensures.number c.new.ensures.room ∙ ap (λ (u : List ℕ). whole_items 1 (take (2 ^ 30) u)) c.flush.ensures.uses.unread
+first_whole g c = fresh_whole c.new.result _ (2 ^ 30) c.new.ensures.ended c.new.ensures.ahead c.new.ensures.number c.new.ensures.room ∙ ap (λ (u : List ℕ). whole_items 1 (take (2 ^ 30) u)) c.flush.ensures.ends.uses.unread
 
 -- the moments while it is
 first_moments : (g : _) (c : After-flush g) → Told g.H.Source g.H.Host c.args.host.now
@@ -56,11 +54,15 @@ first_moments g c told =
 pub returns-in_err-flush-clause-moments : goal.returns-in_err-flush-clause-moments
 returns-in_err-flush-clause-moments g c = first_moments g (goal.at.returns-in_err-flush-clause-moments g c).After-flush
 
-pub returns-in_err-flush-clause-alone : goal.returns-in_err-flush-clause-alone
-returns-in_err-flush-clause-alone g c = λ told. alone_printing (c.flush.ensures.moments told.tells)
+-- what is used for it
+pub returns-in_err-push_opened-clause-ends : goal.returns-in_err-push_opened-clause-ends
+returns-in_err-push_opened-clause-ends g c = record { uses = log_none c.args.host.now; stops = search rules }
 
-pub returns-in_err-flush-clause-uses : goal.returns-in_err-flush-clause-uses
-returns-in_err-flush-clause-uses g c = output_all c.flush.ensures.uses
+first_log : (g : _) (c : After-flush g) → UsesLog g.H.Source g.H.Host c.args.host.now c.flush.new.host
+first_log g c = output_log c.flush.ensures.ends.uses c.flush.ensures.moments
+
+pub returns-in_err-flush-clause-ends : goal.returns-in_err-flush-clause-ends
+returns-in_err-flush-clause-ends g c = record { uses = first_log g (goal.at.returns-in_err-flush-clause-ends g c).After-flush; stops = search rules }
 
 pub returns-in_err-flush-clause-front : goal.returns-in_err-flush-clause-front
 returns-in_err-flush-clause-front g c = λ told.
@@ -79,7 +81,7 @@ loop-running-init g c =
       sane = record {
         reader = c.new.ensures.kept;
         agrees = λ told ended. absurd (begun_not_ended c.new.result c.new.ensures.ended ended);
-        stands = stands_handed c.args.opening.log c.args.opening.database.commits c.args.host.now c.flush.new.host c.flush.ensures.uses.standing c.flush.ensures.uses.files c.flush.ensures.moments c.requires.stands;
+        stands = stands_handed c.args.opening.log c.args.opening.database.commits c.args.host.now c.flush.new.host c.flush.ensures.ends.uses.standing c.flush.ensures.ends.uses.files c.flush.ensures.moments c.requires.stands;
       };
       so_far = λ told.
           handed_first (g.H.Host.written c.flush.new.host) written c.flush.new.output line _ c.in_ok-flush.ensures.empty (first_written g at told)
@@ -90,25 +92,23 @@ loop-running-init g c =
           ∙ ap (λ (is : List Item). written ++ (line ++ lines_of (machine is work))) (first_whole g at)
           ∙ ap (λ (s : State). written ++ (line ++ lines_of (machine (whole_items 1 (take (2 ^ 30) unread)) s))) (first_state g at);
       texts = λ told.
-          ap (λ (f : Five (List ℕ)). texts_in f ++ texts_of (machine (left_items c.new.result (g.H.Source.unread c.flush.new.host)) work)) c.flush.ensures.uses.files
+          ap (λ (f : Five (List ℕ)). texts_in f ++ texts_of (machine (left_items c.new.result (g.H.Source.unread c.flush.new.host)) work)) c.flush.ensures.ends.uses.files
           ∙ ap (λ (is : List Item). texts ++ texts_of (machine is work)) (first_items g at)
           ∙ ap (λ (s : State). texts ++ texts_of (machine (items 1 unread) s)) (first_state g at);
       telling = λ told. record {
-        enough = omega (arith, ap (λ (f : Five (List ℕ)). length (texts_in f)) c.flush.ensures.uses.files);
-        counted = c.requires.counted told ∙ ap (λ (f : Five (List ℕ)). length (texts_in f)) (sym c.flush.ensures.uses.files);
+        enough = omega (arith, ap (λ (f : Five (List ℕ)). length (texts_in f)) c.flush.ensures.ends.uses.files);
+        counted = c.requires.counted told ∙ ap (λ (f : Five (List ℕ)). length (texts_in f)) (sym c.flush.ensures.ends.uses.files);
         gathered = subst (λ (o : List ℕ). IsGathered written (g.H.Host.written c.flush.new.host) o c.args.opening.database.commits) (sym c.in_ok-flush.ensures.empty)
             (first_gathered written (g.H.Host.written c.flush.new.host) c.args.opening.database.commits c.args.opening.database.commits (first_written g at told.tells));
       };
       moments = first_moments g (goal.at.loop-running-init g c).After-flush;
-      alone = λ told. alone_printing (c.flush.ensures.moments told.tells);
-      others = λ told. only_log (g.H.Host.files c.args.host.now) (g.H.Host.files c.flush.new.host) c.flush.ensures.uses.files;
       grown = λ told. (c.flush.ensures.front told).grown;
-      count = λ told. omega (arith, c.new.ensures.room, ap length (fresh_input c.new.result (g.H.Source.unread c.flush.new.host) c.new.ensures.ended c.new.ensures.ahead), ap length c.flush.ensures.uses.unread);
-      uses = output_all c.flush.ensures.uses;
+      count = λ told. omega (arith, c.new.ensures.room, ap length (fresh_input c.new.result (g.H.Source.unread c.flush.new.host) c.new.ensures.ended c.new.ensures.ahead), ap length c.flush.ensures.ends.uses.unread);
+      uses = first_log g (goal.at.loop-running-init g c).After-flush;
     }
 
 told_turn : (g : _) (c : After-turn g) → Told g.H.Source g.H.Host c.args.host.now → Told g.H.Source g.H.Host c.loop-running.host
-told_turn g c t = record { tells = t.tells; honest = subst IsHonest (sym c.loop-running.invariant.uses.standing) t.honest }
+told_turn g c t = record { tells = t.tells; honest = subst IsHonest (sym c.loop-running.invariant.uses.all.standing) t.honest }
 
 -- all that is gathered at the end is all that is left
 over : (g : _) (c : After-flush-2 g) → left_items c.turn.new.self.reader (g.H.Source.unread c.turn.new.host) ≡ []
@@ -141,7 +141,7 @@ pub returns-clause-read : goal.returns-clause-read
 returns-clause-read g c = λ told.
     let end = c.in_ok-turn.ensures.more.end c.if-branch.false in
     let none = ap length (over_input c.turn.new.self.reader (g.H.Source.unread c.turn.new.host) end.0 end.1) in (
-      c.flush-2.ensures.uses.unread ∙ c.in_ok-turn.ensures.sane.agrees told end.0,
+      c.flush-2.ensures.ends.uses.unread ∙ c.in_ok-turn.ensures.sane.agrees told end.0,
       omega (arith, c.loop-running.invariant.count told, c.in_ok-turn.ensures.goes_on.count told, none),
     )
 
@@ -151,12 +151,12 @@ returns-clause-log g c = λ told.
     let ok = c.in_ok-turn.ensures in
     let at = (goal.at.returns-clause-log g c).After-flush-2 in
     let still = told_turn g (goal.at.After-flush-2 g at).After-turn told in
-    let after : Told g.H.Source g.H.Host c.turn.new.host = record { tells = told.tells; honest = subst IsHonest (sym c.turn.ensures.uses.standing) still.honest } in
+    let after : Told g.H.Source g.H.Host c.turn.new.host = record { tells = told.tells; honest = subst IsHonest (sym c.turn.ensures.ends.uses.all.standing) still.honest } in
     let none = texts_of-over _ (state_of c.turn.new.self.work) (over g at) in
     let all = sym (append-nil (texts_in (g.H.Host.files c.turn.new.host))) ∙ sym (ap (λ (l : List (List ℕ)). texts_in (g.H.Host.files c.turn.new.host) ++ l) none)
     ∙ ok.goes_on.texts still ∙ i.texts told in
     let at_turn = subst (IsWholeLog (g.H.Host.files c.turn.new.host).log) all (whole_log (g.H.Host.files c.turn.new.host) (g.H.Host.history c.turn.new.host) c.turn.new.self.work.log (ok.sane.stands.log after) ok.sane.stands.epoch) in
-    subst (λ (f : Five (List ℕ)). IsWholeLog f.log (texts_in (g.H.Host.files c.args.host.now) ++ texts_from (opened_by c.args.opening) (g.H.Source.unread c.args.host.now))) (sym c.flush-2.ensures.uses.files) at_turn
+    subst (λ (f : Five (List ℕ)). IsWholeLog f.log (texts_in (g.H.Host.files c.args.host.now) ++ texts_from (opened_by c.args.opening) (g.H.Source.unread c.args.host.now))) (sym c.flush-2.ensures.ends.uses.files) at_turn
 
 -- the moments of one turn more
 turned : (g : _) (c : After-turn g) → Told g.H.Source g.H.Host c.args.host.now
@@ -180,7 +180,7 @@ ended_moments g c told =
     let work = c.turn.new.self.work in
     let files = g.H.Host.files c.turn.new.host in
     let still = told_turn g (goal.at.After-flush-2 g c).After-turn told in
-    let after : Told g.H.Source g.H.Host c.turn.new.host = record { tells = told.tells; honest = subst IsHonest (sym c.turn.ensures.uses.standing) still.honest } in
+    let after : Told g.H.Source g.H.Host c.turn.new.host = record { tells = told.tells; honest = subst IsHonest (sym c.turn.ensures.ends.uses.all.standing) still.honest } in
     let t = ok.telling still least before (i.telling told) in
     let none = texts_of-over _ (state_of work) (over g c) in
     let texts : texts_in files ++ [] ≡ texts_in (g.H.Host.files c.args.host.now) ++ texts_from (opened_by c.args.opening) (g.H.Source.unread c.args.host.now) =
@@ -192,24 +192,24 @@ ended_moments g c told =
     (λ m telling. subst (λ (ts : List (List ℕ)). IsHeld least ts before m) texts
     (held_telling files (g.H.Host.history c.turn.new.host) work.log (ok.sane.stands.log after) ok.sane.stands.epoch least before work.database.commits t.enough t.counted c.push_closed.new.self [] m all telling)))
 
--- what is touched until then
-turned_alone : (g : _) (c : After-turn g) → Told g.H.Source g.H.Host c.args.host.now → Since (IsLater (g.H.Host.history c.args.host.now).now) (g.H.Host.history c.args.host.now) (g.H.Host.history c.turn.new.host)
-turned_alone g c told = alone_on (c.loop-running.invariant.alone told) (c.turn.ensures.alone (told_turn g c told))
+-- what is used until then
+turned_log : (g : _) (c : After-turn g) → UsesLog g.H.Source g.H.Host c.args.host.now c.turn.new.host
+turned_log g c = log_on c.loop-running.invariant.uses c.turn.ensures.ends.uses
 
-ended_alone : (g : _) (c : After-flush-2 g) → Told g.H.Source g.H.Host c.args.host.now → Since (IsLater (g.H.Host.history c.args.host.now).now) (g.H.Host.history c.args.host.now) (g.H.Host.history c.flush-2.new.host)
-ended_alone g c told = alone_on (turned_alone g (goal.at.After-flush-2 g c).After-turn told) (alone_printing (c.flush-2.ensures.moments told.tells))
+ended_log : (g : _) (c : After-flush-2 g) → UsesLog g.H.Source g.H.Host c.args.host.now c.flush-2.new.host
+ended_log g c = log_on (turned_log g (goal.at.After-flush-2 g c).After-turn) (output_log c.flush-2.ensures.ends.uses c.flush-2.ensures.moments)
 
-pub returns-in_err-turn-clause-alone : goal.returns-in_err-turn-clause-alone
-returns-in_err-turn-clause-alone g c = turned_alone g (goal.at.returns-in_err-turn-clause-alone g c).After-turn
+pub returns-in_err-turn-clause-ends : goal.returns-in_err-turn-clause-ends
+returns-in_err-turn-clause-ends g c = record { uses = turned_log g (goal.at.returns-in_err-turn-clause-ends g c).After-turn; stops = search rules }
 
-pub returns-in_err-push_closed-clause-alone : goal.returns-in_err-push_closed-clause-alone
-returns-in_err-push_closed-clause-alone g c = turned_alone g (goal.at.returns-in_err-push_closed-clause-alone g c).After-turn
+pub returns-in_err-push_closed-clause-ends : goal.returns-in_err-push_closed-clause-ends
+returns-in_err-push_closed-clause-ends g c = record { uses = turned_log g (goal.at.returns-in_err-push_closed-clause-ends g c).After-turn; stops = search rules }
 
-pub returns-in_err-flush-2-clause-alone : goal.returns-in_err-flush-2-clause-alone
-returns-in_err-flush-2-clause-alone g c = ended_alone g (goal.at.returns-in_err-flush-2-clause-alone g c).After-flush-2
+pub returns-in_err-flush-2-clause-ends : goal.returns-in_err-flush-2-clause-ends
+returns-in_err-flush-2-clause-ends g c = record { uses = ended_log g (goal.at.returns-in_err-flush-2-clause-ends g c).After-flush-2; stops = search rules }
 
-pub returns-clause-alone : goal.returns-clause-alone
-returns-clause-alone g c = ended_alone g (goal.at.returns-clause-alone g c).After-flush-2
+pub returns-clause-ends : goal.returns-clause-ends
+returns-clause-ends g c = record { uses = ended_log g (goal.at.returns-clause-ends g c).After-flush-2; stops = tt }
 
 pub returns-in_err-turn-clause-moments : goal.returns-in_err-turn-clause-moments
 returns-in_err-turn-clause-moments g c = turned g (goal.at.returns-in_err-turn-clause-moments g c).After-turn
@@ -235,21 +235,7 @@ loop-running-preserved g c =
       texts = λ told. ok.goes_on.texts (told_turn g at told) ∙ i.texts told;
       telling = λ told. ok.telling (told_turn g at told) _ _ (i.telling told);
       moments = turned g at;
-      alone = turned_alone g at;
-      others = λ told. c.turn.ensures.others (told_turn g at told) ∙ ap (λ (f : Five (List ℕ)). with_ f Log (g.H.Host.files c.turn.new.host).log) (i.others told);
       grown = λ told. omega (arith, i.grown told, (c.turn.ensures.front told).grown);
       count = λ told. omega (arith, i.count told, ok.goes_on.count told);
-      uses = all_on i.uses c.turn.ensures.uses;
+      uses = turned_log g at;
     }
-
-pub returns-in_err-flush-2-clause-uses : goal.returns-in_err-flush-2-clause-uses
-returns-in_err-flush-2-clause-uses g c = all_on (all_on c.loop-running.invariant.uses c.turn.ensures.uses) (output_all c.flush-2.ensures.uses)
-
-pub returns-clause-uses : goal.returns-clause-uses
-returns-clause-uses g c = all_on (all_on c.loop-running.invariant.uses c.turn.ensures.uses) (output_all c.flush-2.ensures.uses)
-
-pub returns-in_err-turn-clause-uses : goal.returns-in_err-turn-clause-uses
-returns-in_err-turn-clause-uses g c = all_on c.loop-running.invariant.uses c.turn.ensures.uses
-
-pub returns-in_err-push_closed-clause-uses : goal.returns-in_err-push_closed-clause-uses
-returns-in_err-push_closed-clause-uses g c = all_on c.loop-running.invariant.uses c.turn.ensures.uses

@@ -93,7 +93,7 @@ begun_behind g c told honest unborn =
     let t : Told g.H.Source g.H.Host c.mount.new.host = record { tells = told; honest = honest } in
     let old = (g.H.Host.files c.mount.new.host).log in
     let is = unborn_gives old unborn in
-    let after : IsHonest (g.H.Host.standing c.answer_all.new.host) = subst IsHonest (sym (c.answer_all.ensures.uses.standing ∙ c.open_log.ensures.moves.uses.standing)) honest in
+    let after : IsHonest (g.H.Host.standing c.answer_all.new.host) = subst IsHonest (sym (c.answer_all.ensures.ends.uses.all.standing ∙ c.open_log.ensures.moves.uses.standing)) honest in
     inr (left_now old nothing_logged (g.H.Source.unread c.mount.new.host) (g.H.Host.written c.mount.new.host) (g.H.Host.history c.answer_all.new.host).now (g.H.Host.written c.answer_all.new.host) (g.H.Host.files c.answer_all.new.host).log
     (safe_now (opened_safe g c t nothing_logged is) (each_safe g c t nothing_logged is))
     (g.met.H.Host.output_now c.answer_all.new.host told) (g.met.H.Host.read_may_be_left c.answer_all.new.host told after Log))
@@ -102,7 +102,7 @@ begun_behind g c told honest unborn =
 alone_behind : (g : _) (c : After-answer_all g) → g.H.Source.tells → IsHonest (g.H.Host.standing c.mount.new.host) → Since (IsLater (g.H.Host.history c.mount.new.host).now) (g.H.Host.history c.mount.new.host) (g.H.Host.history c.answer_all.new.host)
 alone_behind g c told honest =
     let t : Told g.H.Source g.H.Host c.mount.new.host = record { tells = told; honest = honest } in
-    alone_on (c.open_log.ensures.moves.moments t) (c.answer_all.ensures.alone (told_on c.open_log.ensures.moves.uses t))
+    alone_on (c.open_log.ensures.moves.moments t) (c.answer_all.ensures.ends.uses.alone (told_on c.open_log.ensures.moves.uses t))
 
 -- what is said behind the mounting is said of the whole run
 module _ (g : _) (c : After-mount g) (told : g.H.Source.tells) (opened : Opened) where
@@ -218,7 +218,7 @@ work_left g c told honest opened is =
     let at = (goal.at.After-answer_all g c).After-mount in
     left_now (g.H.Host.files c.args.host.now).log opened (g.H.Source.unread c.args.host.now) (g.H.Host.written c.args.host.now) (g.H.Host.history c.answer_all.new.host).now (g.H.Host.written c.answer_all.new.host) (g.H.Host.files c.answer_all.new.host).log
     (work_safe g c told honest opened is) (g.met.H.Host.output_now c.answer_all.new.host told)
-    (g.met.H.Host.read_may_be_left c.answer_all.new.host told (subst IsHonest (sym (c.answer_all.ensures.uses.standing ∙ c.open_log.ensures.moves.uses.standing)) (still g at honest)) Log)
+    (g.met.H.Host.read_may_be_left c.answer_all.new.host told (subst IsHonest (sym (c.answer_all.ensures.ends.uses.all.standing ∙ c.open_log.ensures.moves.uses.standing)) (still g at honest)) Log)
 
 pub returns-in-Ok-answer_all-clause-left : goal.returns-in-Ok-answer_all-clause-left
 returns-in-Ok-answer_all-clause-left g c = λ told honest quiet opened is has. work_left g (goal.at.returns-in-Ok-answer_all-clause-left g c).After-answer_all told honest opened is

@@ -1,4 +1,4 @@
-use Rattle.std.proofs.Common.{◌≡◌, ◌++◌, ◌∷◌, List, ℕ, true, Err, refl, sym, ap, subst, ◌∙◌, append-nil}
+use Rattle.std.proofs.Common.{◌≡◌, ◌++◌, ◌∷◌, List, ℕ, true, Err, rules, refl, sym, ap, subst, ◌∙◌, append-nil}
 use Rattle.std.proofs.lemmas.Bool.{and_parts}
 use Rattle.hs_host.specs.Files.{Five, IsHonest}
 use Rattle.hs_host.specs.Moments.{Since}
@@ -9,17 +9,18 @@ use Rattle.hs_entries.specs.Left.{KeepsRoom}
 use Rattle.hs_entries.specs.Reader.{left, left_items, left_whole, next_number}
 use Rattle.hs_machine.specs.Lines.{printed}
 use Rattle.hs_top.specs.Acknowledged.{IsNamed, are_named}
-use Rattle.hs_top.specs.Crash.{IsLater}
 use Rattle.hs_top.specs.Holding.{IsHeld, IsGathered, IsAcknowledging}
 use Rattle.hs_top.specs.Machine.{State, WritesPrefix, machine, step_of, rest_of, texts_of}
 use Rattle.hs_top.specs.Running.{Stands, machine_of, state_of, texts_in}
+use Rattle.hs_top.specs.Used.{UsesLog}
 use Rattle.hs_top.specs.declared.stop.Stop.TheVariants.{TooLong}
 use Rattle.hs_top.proofs.Acknowledged.{items_named}
-use Rattle.hs_top.proofs.Alone.{alone_printing, alone_on}
 use Rattle.hs_top.proofs.Holding.{held_telling, stands_handed, telling_handed}
 use Rattle.hs_top.proofs.Runs.{rest_of-turn, lines_of-turn, texts_of-turn, lines_of-over}
 use Rattle.hs_top.proofs.Taken.{taken, taken_whole, taken_none, none_before, ended, none_left}
+use Rattle.hs_top.proofs.Stops.{read_run}
 use Rattle.hs_top.proofs.Turns.{turned, turning, front_behind, read_on, logged_on}
+use Rattle.hs_top.proofs.Used.{log_on, streams_log, work_log}
 use Rattle.hs_top.proofs.running.Running.turn.Goals as goal
 use Rattle.hs_top.proofs.running.Running.turn.Goals.{After-answer, After-next_item, In-Ok, Then-is_end}
 
@@ -28,7 +29,7 @@ next : (g : _) (c : After-answer g) → g.H.Source.tells
     → left_items c.args.self.now.reader (g.H.Source.unread c.args.host.now) ≡ c.in-Ok.item ∷ left_items c.next_item.new.reader (g.H.Source.unread c.answer.new.host)
 next g c told =
     taken c.in-Ok.item _ _ (sym c.is_end.ensures ∙ c.if-is_end.false) (c.in-Ok.ensures.items told).first
-    ∙ ap (λ (u : List ℕ). c.in-Ok.item ∷ left_items c.next_item.new.reader u) (sym c.answer.ensures.uses.unread)
+    ∙ ap (λ (u : List ℕ). c.in-Ok.item ∷ left_items c.next_item.new.reader u) (sym c.answer.ensures.ends.uses.unread)
 
 -- and what is left goes on behind its lines
 goes_on : (g : _) (c : After-answer g) → g.H.Source.tells → (after : State) → after ≡ (step_of c.in-Ok.item (state_of c.args.self.now.work)).next
@@ -55,7 +56,7 @@ pub returns-clause-front : goal.returns-clause-front
 returns-clause-front g c = front_of_turn g (goal.at.returns-clause-front g c).After-answer
 
 still : (g : _) (c : In-Ok g) → Told g.H.Source g.H.Host c.args.host.now → Told g.H.Source g.H.Host c.next_item.new.host
-still g c t = record { tells = t.tells; honest = subst IsHonest (sym c.next_item.ensures.uses.standing) t.honest }
+still g c t = record { tells = t.tells; honest = subst IsHonest (sym c.next_item.ensures.ends.uses.standing) t.honest }
 
 pub returns-clause-goes_on : goal.returns-clause-goes_on
 returns-clause-goes_on g c =
@@ -68,14 +69,14 @@ returns-clause-goes_on g c =
           turned (g.H.Host.written c.args.host.now) c.args.self.now.output (g.H.Host.written c.next_item.new.host) c.next_item.new.output (g.H.Host.written c.answer.new.host) c.answer.new.output _ _ _
           (c.in-Ok.ensures.done told) (c.in_ok-answer.ensures.done told)
           (lines_of-turn _ _ c.in-Ok.item (state_of c.args.self.now.work) (state_of c.answer.new.work)
-          (taken_whole c.in-Ok.item _ _ ((c.in-Ok.ensures.items told).whole more) ∙ ap (λ (u : List ℕ). c.in-Ok.item ∷ left_whole c.next_item.new.reader u) (sym c.answer.ensures.uses.unread))
+          (taken_whole c.in-Ok.item _ _ ((c.in-Ok.ensures.items told).whole more) ∙ ap (λ (u : List ℕ). c.in-Ok.item ∷ left_whole c.next_item.new.reader u) (sym c.answer.ensures.ends.uses.unread))
           c.in_ok-answer.ensures.state);
       texts = λ t.
           logged_on (texts_in (g.H.Host.files c.args.host.now)) (texts_in (g.H.Host.files c.next_item.new.host)) (texts_in (g.H.Host.files c.answer.new.host)) _ _ _
-          (ap texts_in c.next_item.ensures.uses.files)
+          (ap texts_in c.next_item.ensures.ends.uses.files)
           (c.in_ok-answer.ensures.texts (still g (goal.at.returns-clause-goes_on g c).In-Ok t))
           (texts_of-turn _ _ c.in-Ok.item (state_of c.args.self.now.work) (state_of c.answer.new.work) (next g at t.tells) c.in_ok-answer.ensures.state);
-      count = λ told. subst (λ (u : List ℕ). KeepsRoom (left c.args.self.now.reader (g.H.Source.unread c.args.host.now)) (left c.next_item.new.reader u)) (sym c.answer.ensures.uses.unread) (c.in-Ok.ensures.items told).used;
+      count = λ told. subst (λ (u : List ℕ). KeepsRoom (left c.args.self.now.reader (g.H.Source.unread c.args.host.now)) (left c.next_item.new.reader u)) (sym c.answer.ensures.ends.uses.unread) (c.in-Ok.ensures.items told).used;
     }
 
 -- at the end nothing is left, as it was before
@@ -96,7 +97,7 @@ returns-then-is_end-clause-goes_on g c =
       within = λ told more.
           absurd (taken_none c.in-Ok.item _ _ end ((c.in-Ok.ensures.items told).whole more));
       texts = λ t.
-          ap (λ (f : Five (List ℕ)). texts_in f ++ texts_of (machine (left_items c.next_item.new.reader (g.H.Source.unread c.next_item.new.host)) (state_of c.args.self.now.work))) c.next_item.ensures.uses.files
+          ap (λ (f : Five (List ℕ)). texts_in f ++ texts_of (machine (left_items c.next_item.new.reader (g.H.Source.unread c.next_item.new.host)) (state_of c.args.self.now.work))) c.next_item.ensures.ends.uses.files
           ∙ ap (λ (items : List Item). texts_in (g.H.Host.files c.args.host.now) ++ texts_of (machine items (state_of c.args.self.now.work))) (none_more g at t.tells);
       count = λ told. (c.in-Ok.ensures.items told).used;
     }
@@ -126,7 +127,7 @@ telling_read : (g : _) (c : In-Ok g) → g.H.Source.tells → (least : ℕ) (bef
     → IsAcknowledging least before (g.H.Host.files c.next_item.new.host) (g.H.Host.written c.next_item.new.host) c.next_item.new.output c.args.self.now.work.database.commits
 telling_read g c told least before =
     telling_handed least before (g.H.Host.files c.args.host.now) (g.H.Host.files c.next_item.new.host) (g.H.Host.written c.args.host.now) (g.H.Host.written c.next_item.new.host) c.args.self.now.output c.next_item.new.output c.args.self.now.work.database.commits
-    c.next_item.ensures.uses.files (c.in-Ok.ensures.done told) (c.next_item.ensures.front told).grown
+    c.next_item.ensures.ends.uses.files (c.in-Ok.ensures.done told) (c.next_item.ensures.front told).grown
 
 named : (g : _) (c : After-answer g) → g.H.Source.tells → IsNamed c.in-Ok.item
 named g c told = (and_parts _ _ (subst (λ (is : List Item). are_named is ≡ true) (next g c told) (items_named (next_number c.args.self.now.reader) (left c.args.self.now.reader (g.H.Source.unread c.args.host.now)).input))).0
@@ -140,7 +141,7 @@ turning_moments g c told least before t =
     let step = step_of c.in-Ok.item (state_of c.args.self.now.work) in
     let rest = texts_of (machine (left_items c.next_item.new.reader (g.H.Source.unread c.answer.new.host)) step.next) in
     let texts : texts_in (g.H.Host.files c.next_item.new.host) ++ (step.texts ++ rest) ≡ texts_in (g.H.Host.files c.args.host.now) ++ texts_of (machine_of c.args.self.now (g.H.Source.unread c.args.host.now)) =
-    ap (λ (f : Five (List ℕ)). texts_in f ++ (step.texts ++ rest)) c.next_item.ensures.uses.files
+    ap (λ (f : Five (List ℕ)). texts_in f ++ (step.texts ++ rest)) c.next_item.ensures.ends.uses.files
     ∙ ap (λ (ts : List (List ℕ)). texts_in (g.H.Host.files c.args.host.now) ++ ts) (sym (texts_of-turn _ _ c.in-Ok.item (state_of c.args.self.now.work) step.next (next g c told.tells) refl)) in
     since_join (reading g (goal.at.After-answer g c).After-next_item told least before t)
     (subst (λ (ts : List (List ℕ)). Since (IsHeld least ts before) (g.H.Host.history c.next_item.new.host) (g.H.Host.history c.answer.new.host)) texts
@@ -166,29 +167,35 @@ returns-clause-telling g c = λ told least before t.
     let at = (goal.at.returns-clause-telling g c).In-Ok in
     c.in_ok-answer.ensures.telling (still g at told) (named g (goal.at.returns-clause-telling g c).After-answer told.tells) least before (telling_read g at told.tells least before t)
 
--- what is touched in the turn
-turning_alone : (g : _) (c : After-answer g) → Told g.H.Source g.H.Host c.args.host.now
-    → Since (IsLater (g.H.Host.history c.args.host.now).now) (g.H.Host.history c.args.host.now) (g.H.Host.history c.answer.new.host)
-turning_alone g c told =
-    let at = (goal.at.After-answer g c).In-Ok in
-    alone_on (alone_printing (c.next_item.ensures.moments told.tells)) (c.answer.ensures.alone (still g at told))
+-- what is used in the turn
+read_so_far : (g : _) (c : After-next_item g) → UsesLog g.H.Source g.H.Host c.args.host.now c.next_item.new.host
+read_so_far g c = streams_log c.next_item.ensures.ends.uses c.next_item.ensures.moments
 
-pub returns-in-Err-clause-alone : goal.returns-in-Err-clause-alone
-returns-in-Err-clause-alone g c = λ told. alone_printing (c.next_item.ensures.moments told.tells)
+turning_log : (g : _) (c : After-answer g) → UsesLog g.H.Source g.H.Host c.args.host.now c.answer.new.host
+turning_log g c = log_on (read_so_far g (goal.at.After-answer g c).After-next_item) (work_log c.answer.ensures.ends.uses c.answer.ensures.alone)
 
-pub returns-then-is_end-clause-alone : goal.returns-then-is_end-clause-alone
-returns-then-is_end-clause-alone g c = λ told. alone_printing (c.next_item.ensures.moments told.tells)
+pub returns-in-Err-clause-ends : goal.returns-in-Err-clause-ends
+returns-in-Err-clause-ends g c = record {
+  uses = read_so_far g (goal.at.returns-in-Err-clause-ends g c).After-next_item;
+  stops = read_run g.H.Source g.H.Host c.in-Err.stop _ _ c.in-Err.ensures.ends.stops;
+}
 
-pub returns-in_err-answer-clause-alone : goal.returns-in_err-answer-clause-alone
-returns-in_err-answer-clause-alone g c = turning_alone g (goal.at.returns-in_err-answer-clause-alone g c).After-answer
+pub returns-then-is_end-clause-ends : goal.returns-then-is_end-clause-ends
+returns-then-is_end-clause-ends g c = record { uses = read_so_far g (goal.at.returns-then-is_end-clause-ends g c).After-next_item; stops = tt }
 
-pub returns-clause-alone : goal.returns-clause-alone
-returns-clause-alone g c = turning_alone g (goal.at.returns-clause-alone g c).After-answer
+pub returns-in_err-answer-clause-ends : goal.returns-in_err-answer-clause-ends
+returns-in_err-answer-clause-ends g c = record {
+  uses = turning_log g (goal.at.returns-in_err-answer-clause-ends g c).After-answer;
+  stops = search rules;
+}
+
+pub returns-clause-ends : goal.returns-clause-ends
+returns-clause-ends g c = record { uses = turning_log g (goal.at.returns-clause-ends g c).After-answer; stops = tt }
 
 -- what was read and handed over leaves the log as it stands
 stands_read : (g : _) (c : After-next_item g) → Stands g.H.Source g.H.Host c.args.self.now.work.log c.args.self.now.work.database.commits c.next_item.new.host
 stands_read g c =
-    stands_handed c.args.self.now.work.log c.args.self.now.work.database.commits c.args.host.now c.next_item.new.host c.next_item.ensures.uses.standing c.next_item.ensures.uses.files c.next_item.ensures.moments c.requires.sane.stands
+    stands_handed c.args.self.now.work.log c.args.self.now.work.database.commits c.args.host.now c.next_item.new.host c.next_item.ensures.ends.uses.standing c.next_item.ensures.ends.uses.files c.next_item.ensures.moments c.requires.sane.stands
 
 pub returns-then-is_end-clause-sane : goal.returns-then-is_end-clause-sane
 returns-then-is_end-clause-sane g c = record {
