@@ -7,8 +7,6 @@ mod division;
 mod printed;
 mod printing;
 mod reading;
-#[cfg(test)]
-mod tests;
 
 pub use arithmetic::{add, mul, sub};
 pub use division::div;

@@ -13,6 +13,3 @@ pub use letters::{concat, lower, upper};
 pub use matching::like;
 pub use positions::{char_length, substring};
 pub use trimming::{Side, trim};
-
-#[cfg(test)]
-mod tests;

@@ -14,6 +14,3 @@ pub use moves::{plus_days, plus_months};
 pub use parts::{Part, extract};
 pub use printing::{print_date, print_stamp};
 pub use reading::{read_date, read_stamp};
-
-#[cfg(test)]
-mod tests;

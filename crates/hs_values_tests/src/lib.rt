@@ -1,4 +1,4 @@
-//! What the calls of `hs_values` answer on values that other programs compared, cut and sorted: tests alone.
+//! What the calls on values answer, where other programs compared, cut, sorted and reckoned them: tests alone.
 #![tactic(auto)]
 
 #[cfg(test)]

@@ -1,10 +1,13 @@
-// Values that another program compared, cut and sorted, and each list and each call once.
+// Values that another program compared, cut, sorted and reckoned, and each list and each call once.
 mod calls;
 mod comparing;
+mod dates;
+mod decimals;
 mod lists;
 mod maps;
 mod sorting;
 mod storing;
+mod texts;
 
 use hs_values::{Dec, ValueRef};
 

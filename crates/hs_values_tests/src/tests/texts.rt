@@ -1,5 +1,5 @@
 // Worked cases, each with the value that it must give. A line is a case, and a bar parts its fields.
-use super::{Side, char_length, concat, laws, like, lower, substring, trim, upper};
+use hs_scalar::{Side, char_length, concat, laws, like, lower, substring, trim, upper};
 use std::test::Fail;
 
 // A text, a pattern, an escape or nothing, and whether the text is like the pattern.

@@ -1,5 +1,8 @@
 // Every call on a table of cases, whose answers are those of Python's datetime and calendar.
-use super::*;
+use hs_temporal::{
+    Part, day_and_time, extract, laws, moment_at, plus_days, plus_months, print_date, print_stamp,
+    read_date, read_stamp,
+};
 use hs_values::EvalFault::{BadDate, Range};
 use hs_values::{Chars, EvalFault};
 use std::test::Fail;

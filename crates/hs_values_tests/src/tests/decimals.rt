@@ -1,6 +1,6 @@
 // Sums, quotients and texts that were reckoned by hand or by another program's decimal numbers.
-use super::*;
-use crate::tests::Operation::{Add, Divide, Multiply, Rescale, Subtract};
+use crate::tests::decimals::Operation::{Add, Divide, Multiply, Rescale, Subtract};
+use hs_decimal::{add, div, mul, print, read, read_printed, rescale, sub};
 use hs_values::EvalFault::{DivisionByZero, Range};
 use hs_values::{Chars, Dec, EvalFault, checked_decimal};
 use std::alloc::Global;
