@@ -52,7 +52,7 @@ module _ {X : Type 0} where
         | inr without ↦ subst (AllByRecursion P) (sym (dropped p x xs without)) (all_filtered p P xs h.1)
       ]
 
-  all_weaker : (P Q : X → Type 0) → ((x : X) → P x → Q x) → (xs : List X) → AllByRecursion P xs → AllByRecursion Q xs
+  pub all_weaker : (P Q : X → Type 0) → ((x : X) → P x → Q x) → (xs : List X) → AllByRecursion P xs → AllByRecursion Q xs
   all_weaker P Q weaker [] h = tt
   all_weaker P Q weaker (x ∷ xs) h = (weaker x h.0, all_weaker P Q weaker xs h.1)
 
@@ -92,17 +92,17 @@ module _ {X : Type 0} (E : X → X → Bool) (e : IsEquivalence E) where
   all-first_of_each P (x ∷ xs) h = (h.0, all_filtered (differs x) P (first_of_each E xs) (all-first_of_each P xs h.1))
 
 module _ {X : Type 0} (cmp : X → X → Ordering) (o : IsTotalOrder cmp) where
-  abbrev same : X → X → Bool
+  abbrev pub same : X → X → Bool
   same = eq_by_cmp cmp
 
   equivalence : IsEquivalence same
   equivalence = eq_by_cmp_equiv o
 
-  abbrev below : X → X → Bool
+  abbrev pub below : X → X → Bool
   below x y = is_lt (cmp x y)
 
   -- none of ys is below x, and so on in ys
-  abbrev Rises : List X → Type 0
+  abbrev pub Rises : List X → Type 0
   Rises [] = Unit {0}
   Rises (y ∷ ys) = AllByRecursion (λ x. below x y ≡ false) ys × Rises ys
 
@@ -117,11 +117,11 @@ module _ {X : Type 0} (cmp : X → X → Ordering) (o : IsTotalOrder cmp) where
     rises_from ys (λ i j d le lt. h (suc i) (suc j) d (suc-le-suc le) (suc-le-suc lt)),
   )
 
-  rises_sorted : (ys : List X) → IsSorted cmp ys → Rises ys
+  pub rises_sorted : (ys : List X) → IsSorted cmp ys → Rises ys
   rises_sorted ys up = rises_from ys (sorted_far below (ranks_by o (λ x. x)) ys up)
 
   -- what isn't below k and doesn't tie with it is above it
-  above_from : (k y : X) → below y k ≡ false → same y k ≡ false → cmp k y ≡ Less
+  pub above_from : (k y : X) → below y k ≡ false → same y k ≡ false → cmp k y ≡ Less
   above_from k y not_below not_same = by (cmp y k) refl
     where
       by : (r : Ordering) → cmp y k ≡ r → cmp k y ≡ Less

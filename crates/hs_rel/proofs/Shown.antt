@@ -1,17 +1,22 @@
 -- What shows rows is sorted, kept and found as the rows are.
-use Rattle.std.proofs.Common.{◌≡◌, ℕ, ◌+◌, ◌<◌, ◌≤◌, Bool, true, false, not, cond, List, [], ◌∷◌, length, map, filter, get_or, take, nat_le, Result, Ok, Err, refl, sym, ap, subst, ◌∙◌, arith, inl, inr}
+use Rattle.std.proofs.Common.{◌≡◌, Bor, ℕ, ◌+◌, ◌<◌, ◌≤◌, Bool, true, false, not, cond, List, [], ◌∷◌, length, map, filter, get_or, take, nat_le, Result, Ok, Err, refl, sym, ap, subst, ◌∙◌, arith, inl, inr}
+use denote.Param.Members.{Mut}
 use Rattle.std.specs.declared.cmp.Ordering.{Ordering}
 use Rattle.std.specs.declared.cmp.Ordering.TheVariants.{Less, Equal, Greater}
 use Rattle.std.specs.Ordering.{on, is_lt, is_eq, eq_by_cmp, ordering_reverse}
-use Rattle.std.specs.Cmp.{IsTotalOrder, IsEquivalence, on_total, eq_by_cmp_equiv}
+use Rattle.std.specs.Fn.{Called, ComparesAs}
+use Rattle.std.specs.declared.alloc.AllocError.{AllocError}
+use Rattle.std.specs.Cmp.{IsStrictWeakOrder, IsTotalOrder, IsEquivalence, on_total, eq_by_cmp_equiv}
 use Rattle.std.specs.List.{All, dedup, dedup_from, list_any, HoldsAt}
-use Rattle.std.specs.List.Sorted.{IsSorted, IsSortedBy, IsStable, IsPermutation, IsBinarySearchResult, IsSearchInRange}
-use Rattle.std.specs.Result.{is_ok}
+use Rattle.std.specs.List.Sorted.{IsSorted, IsSortedBy, IsSortedByClosure, IsStableByClosure, IsStable, IsPermutation, IsBinarySearchResult, IsSearchInRange}
+use Rattle.std.specs.Result.{is_ok, OnOk}
+use Rattle.std.proofs.lemmas.Fn.{always_returns_same}
+use Rattle.std.proofs.lemmas.Result.{on_ok_weaker}
 use Rattle.std.proofs.lemmas.Bool.{cases_Bool, leb-true, leb-false}
 use Rattle.std.proofs.lemmas.List.{get_or-map, length-map}
 use Rattle.std.proofs.lemmas.List.Elements.{All-map}
 use Rattle.std.proofs.lemmas.List.Folds.{list_any_at, list_any_none}
-use Rattle.std.proofs.lemmas.List.Sorted.{searchable_from_sorted, list_any-IsPermutation}
+use Rattle.std.proofs.lemmas.List.Sorted.{ranks_by, searchable_from_sorted, list_any-IsPermutation}
 use Rattle.hs_values.specs.declared.value.Value.{Value}
 use Rattle.hs_values.specs.Order.{row_order_of}
 use Rattle.hs_values.specs.Sorted.{sorted_by, sorted_rows}
@@ -25,6 +30,14 @@ module _ {T X : Type 0} (shown : T → X) where
   pub shown_sorted : (cmp : X → X → Ordering) → IsTotalOrder cmp → (xs ys : List T) → IsSorted (on shown cmp) ys → IsStable (on shown cmp) xs ys → map shown ys ≡ sorted_by cmp (map shown xs)
   shown_sorted cmp o xs ys up stable =
       ap (map shown) (sorted_by-only (on shown cmp) (on_total shown o) xs ys up stable) ∙ map-sorted_by shown cmp xs
+
+  -- a stable sort whose closure compares what is shown
+  pub sorted_by_closure : (cmp : X → X → Ordering) → IsTotalOrder cmp → {F : Type 0} (g : Mut F (Bor T × (Bor T × Unit {0})) Ordering) (f : F) (result : Result (Unit {0}) AllocError) (xs ys : List T) → ((a : Bor T × (Bor T × Unit {0})) (r : Ordering) (f' : F) → Called g f a r f' → (is_lt r ≡ is_lt (cmp (shown a.0.now) (shown a.1.0.now))) × (f' ≡ f)) → OnOk result (IsSortedByClosure g f ys) → IsStableByClosure g f xs ys → OnOk result (map shown ys ≡ sorted_by cmp (map shown xs))
+  sorted_by_closure cmp o g f result xs ys compares up stable =
+      let lt : T → T → Bool = λ a b. is_lt (cmp (shown a) (shown b)) in
+      let ranked : IsStrictWeakOrder lt = ranks_by o shown in
+      let told : ComparesAs g lt f = always_returns_same g (λ a r. is_lt r ≡ lt a.0.now a.1.0.now) f compares in
+      on_ok_weaker result (λ h. shown_sorted cmp o xs ys (h lt ranked told) (stable lt ranked told)) up
 
   pub shown_filtered : (p : X → Bool) (xs : List T) → map shown (filter (λ x. p (shown x)) xs) ≡ filter p (map shown xs)
   shown_filtered p [] = refl

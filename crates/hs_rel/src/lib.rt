@@ -15,5 +15,5 @@ pub use bags::{distinct, except, intersect, union};
 pub use flags::Flags;
 pub use joins::{join, left_join};
 pub use judge::Judge;
-pub use order::{cut, group, in_order};
+pub use order::{cut, first_group, group, in_order};
 pub use stop::{EvalStop, StopKind};

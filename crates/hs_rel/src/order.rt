@@ -1,13 +1,13 @@
 // Groups, the order of an answer, and what is cut from it.
-ghost use Rattle.std.specs.Prelude.{◌≡◌, min, IfOk};
+ghost use Rattle.std.specs.Prelude.{◌≡◌, ◌<◌, ◌≤◌, ◌∷◌, length, take, drop, min, IfOk};
 ghost use Rattle.hs_values.specs.Sorted.{keyed_rows};
-ghost use Rattle.hs_rel.specs.Groups.{grouped, cut_rows};
+ghost use Rattle.hs_rel.specs.Groups.{same_key, runs_of, grouped, cut_rows};
 ghost use Rattle.hs_rel.specs.Outcome.{IsMemoryAlone};
 
 use crate::flags::Flags;
-use crate::sorting::{copies, references, sort, sort_by_first};
+use crate::sorting::{copies, has_same_key, references, sort, sort_by_first};
 use crate::stop::EvalStop;
-use hs_values::RowList;
+use hs_values::{Row, RowList};
 use std::alloc::Global;
 
 /// The rows in the order of their first `keys` columns, NULL first; those that are equal there stay as they
@@ -19,6 +19,21 @@ pub fn group(alloc: Global, rows: &RowList, keys: usize) -> Result<RowList, Eval
     let mut order = references(alloc, rows.as_slice())?;
     sort_by_first(&mut order, keys)?;
     Ok(copies(alloc, &order)?)
+}
+
+/// How many of grouped rows, from the first on, are of its group: those up to the first row whose first `keys`
+/// columns aren't equal to those of the row before it. Of no rows it is 0. Takes no memory.
+pub fn first_group(rows: &[Row], keys: usize) -> usize
+    ensures within { result ≤ length rows.now }
+    ensures some { 0 < length rows.now → 0 < result }
+    ensures first { 0 < length rows.now → runs_of (same_key keys) rows.now ≡ take result rows.now ∷ runs_of (same_key keys) (drop result rows.now) }
+{
+    for end in 1..rows.len() {
+        if !has_same_key(&rows[end - 1], &rows[end], keys) {
+            return end;
+        }
+    }
+    rows.len()
 }
 
 /// The rows in the order of their first columns, of which there is a flag for each, descending where it is

@@ -5,7 +5,7 @@ ghost use Rattle.hs_values.specs.declared.value.Value.{Value};
 ghost use Rattle.hs_values.specs.Order.{row_order_of};
 ghost use Rattle.hs_values.specs.Sorted.{keyed_rows};
 ghost use Rattle.hs_rel.specs.Bags.{same_row, is_among, is_wanted, distinct_rows};
-ghost use Rattle.hs_rel.specs.Groups.{grouped};
+ghost use Rattle.hs_rel.specs.Groups.{same_key, grouped};
 
 use hs_values::{Row, RowList, Value, order_rows, order_rows_by};
 use std::alloc::{AllocError, Global};
@@ -87,6 +87,13 @@ fn first_columns(row: &Row, keys: usize) -> &[Value]
     } else {
         values
     }
+}
+
+/// Whether two rows have equal first columns.
+pub(crate) fn has_same_key(a: &Row, b: &Row, keys: usize) -> bool
+    ensures { result ≡ same_key keys a.now b.now }
+{
+    order_rows(first_columns(a, keys), first_columns(b, keys)) == Ordering::Equal
 }
 
 /// Sorts by the first columns alone.

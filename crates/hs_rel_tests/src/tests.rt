@@ -2,8 +2,8 @@
 use crate::keys::AreEqual;
 use crate::texts::{read, written};
 use hs_rel::{
-    EvalStop, Flags, cut, distinct, except, group, in_order, intersect, join, left_join, owned,
-    union,
+    EvalStop, Flags, cut, distinct, except, first_group, group, in_order, intersect, join,
+    left_join, owned, union,
 };
 use hs_values::RowList;
 use std::alloc::{AllocError, Global};
@@ -200,6 +200,26 @@ fn rows_that_are_judged(rt: HostRuntime) -> Result<(), Fail> {
         on.judged = 0;
         let _ = left_join(alloc, &left, &right, 2, &mut on).is_ok();
         assert_eq!(rt; on.judged, want);
+    }
+    Ok(())
+}
+
+/// How long the first group of grouped rows is.
+#[test]
+fn first_groups(rt: HostRuntime) -> Result<(), Fail> {
+    let alloc = rt.alloc();
+    let cases = [
+        ("", 1, 0),
+        ("1,a", 1, 1),
+        ("1,a;1,b;2,c", 1, 2),
+        ("-,a;-,b;1,c", 1, 2),
+        ("1,a;1,a;1,b", 2, 2),
+        ("1,a;2,b", 0, 2),
+        ("1,a;2,b;2,c", 9, 1),
+    ];
+    for (rows, keys, want) in cases {
+        let rows = read(alloc, rows)?;
+        assert_eq!(rt; first_group(rows.as_slice(), keys), want);
     }
     Ok(())
 }
