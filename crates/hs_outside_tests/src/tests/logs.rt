@@ -117,3 +117,53 @@ fn adds_commits_as_if_each_were_alone(rt: HostRuntime) -> Result<(), Fail> {
     assert_eq!(rt; bytes.as_slice(), BOTH);
     Ok(())
 }
+
+// A log of two texts, the second longer than the window through which texts are read, and bytes behind its end.
+fn long_log(alloc: Global) -> Result<Vec<u8>, AllocError> {
+    let mut log = ONE.to_vec(alloc)?;
+    log.truncate(26);
+    log.extend_from_slice(b"\x01\0\0\0\0\0\x02\0\0")?;
+    log.extend_from_slice(&[65; 131_072])?;
+    log.extend_from_slice(b"\0rest")?;
+    Ok(log)
+}
+
+// How long the texts of a born log of two texts are, and what it is kept as behind them.
+fn settle_two<H: Host>(alloc: Global, host: &mut H) -> Result<Option<(usize, usize, Log)>, Fail>
+    requires { IsOpen (H.standing host.old) }
+{
+    let OpenedLog::Born(mut reader) = Log::open(alloc, host)? else {
+        return Ok(None);
+    };
+    if !reader.advance(host)? {
+        return Ok(None);
+    }
+    let first = reader.text().len();
+    if !reader.advance(host)? {
+        return Ok(None);
+    }
+    let second = reader.text().len();
+    if reader.advance(host)? {
+        return Ok(None);
+    }
+    let log = reader.settle(host, Some(5))?;
+    Ok(Some((first, second, log)))
+}
+
+// The same of that log, and its bytes then.
+fn two_settled(alloc: Global) -> Result<(usize, usize, Log, Vec<u8>), Fail> {
+    let mut host = opened(alloc, long_log(alloc)?, CallList::new(alloc))?;
+    let (first, second, log) = settle_two(alloc, &mut host)?.ok_or("other texts")?;
+    Ok((first, second, log, host.image(FileKind::Log).to_vec(alloc)?))
+}
+
+#[test]
+fn goes_on_behind_a_long_text(rt: HostRuntime) -> Result<(), Fail> {
+    let (first, second, log, bytes) = two_settled(rt.alloc())?;
+    assert!(rt; first == 7 && second == 131_072);
+    assert!(rt; log.last() == Some(5) && log.size() == 131_107);
+    let mut expected = long_log(rt.alloc())?;
+    expected.truncate(131_108);
+    assert_eq!(rt; bytes.as_slice(), expected.as_slice());
+    Ok(())
+}
