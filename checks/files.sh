@@ -63,7 +63,9 @@ same "opened at 1" "$(head -1 output)" "a copy of five files"
 
 # Names and links that are none.
 mkdir folder
-untouched folder/ 4 "hsql: disk fault: folder/: ends in \`/\`"
+for name in folder/ . .. folder/. folder/..; do
+    untouched "$name" 4 "hsql: disk fault: $name: is the name of a folder"
+done
 same "" "$(ls -A folder)" "the files of a folder"
 ln -s nowhere dead.log
 untouched dead 4 "hsql: disk fault: dead.log: is a link that leads nowhere"

@@ -1,4 +1,4 @@
-//! Hosts in memory: tests alone.
+//! Hosts, in memory and over real files: tests alone.
 #![tactic(auto)]
 
 #[cfg(test)]

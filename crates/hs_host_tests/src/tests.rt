@@ -1,4 +1,7 @@
-// Hosts in memory by their public names.
+// Hosts by their public names.
 mod failing;
 mod memory;
+mod other_files;
+mod real;
 mod steps;
+mod stream;

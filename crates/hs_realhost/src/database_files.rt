@@ -42,18 +42,18 @@ impl DatabaseFiles {
     ///
     /// `Foreign` where `name.properties` stands there, as a file or as an entry of that name that leads nowhere, or where
     /// `name.log` is a file that isn't empty and none of the other four is there: then no file is made or touched.
-    /// `NoMemory` where a path can't be built. Every other failure is `Failed`, also that a name ends in `/`, that one of
-    /// the five is a link that leads nowhere, and that another has the lock of `name.log`: then no file but that one is
-    /// made.
+    /// `NoMemory` where a path can't be built. Every other failure is `Failed`, also that a name ends in `/` or its last
+    /// part is `.` or `..`, that one of the five is a link that leads nowhere, and that another has the lock of `name.log`:
+    /// then no file but that one is made.
     pub fn open<R: Files<File = File>>(
         alloc: Global,
         rt: &R,
         name: &str,
     ) -> Result<DatabaseFiles, OpenFault> {
-        if name.ends_with('/') {
+        if names_a_folder(name) {
             return Err(failed(
                 Place::Name,
-                io::Error::new(ErrorKind::InvalidInput, "ends in `/`"),
+                io::Error::new(ErrorKind::InvalidInput, "is the name of a folder"),
             ));
         }
         look_for_foreign(alloc, rt, name)?;
@@ -121,6 +121,15 @@ impl DatabaseFiles {
     pub fn sync(&self, file: FileKind) -> io::Result<()> {
         self.get(file).sync_data()
     }
+}
+
+// Whether a name is that of a folder, beside which its files would stand under names of dots.
+fn names_a_folder(name: &str) -> bool {
+    let last = match name.rsplit_once('/') {
+        None => name,
+        Some((_, last)) => last,
+    };
+    last.is_empty() || last == "." || last == ".."
 }
 
 // The greatest length of a file: 2^62, or what the process is allowed (`ulimit -f`). A write beyond the latter would end
