@@ -1,0 +1,3 @@
+pub mod Catalogue
+pub mod Kept
+pub mod Texts
