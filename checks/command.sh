@@ -20,6 +20,12 @@ same "opened at 3" "$(head -1 output)" "the second run through two links"
 ended 1 "hsql: usage: hsql DATABASE < ENTRIES" bin/hsql </dev/null >/dev/null
 ended 0 "" bin/hsql --quick db </dev/null >/dev/null
 
+# A closed standard error changes no status.
+status=0
+"$top/bin/hsql" db </dev/null >output 2>&- || status=$?
+same 0 "$status" "the status where standard error is closed"
+same "closed at 3" "$(tail -1 output)" "the last line where standard error is closed"
+
 # Where the program is there no source is looked at.
 strace -f -o calls -e trace=openat,execve "$top/bin/hsql" db </dev/null >/dev/null
 same 0 "$(grep -c '/crates/[^/]*/src' calls || true)" "how often a source was looked at"
