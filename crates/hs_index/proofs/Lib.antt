@@ -1,0 +1,4 @@
+pub mod Gaps
+pub mod Indexed
+pub mod RowSets
+pub mod Stored

@@ -1,0 +1,5 @@
+pub mod Keys
+pub mod Kept
+pub mod RowSets
+pub mod Rows
+pub mod Table
