@@ -1,0 +1,5 @@
+pub mod Finding
+pub mod Quotes
+pub mod Texts
+pub mod Types
+pub mod Values
