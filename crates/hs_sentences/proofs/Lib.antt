@@ -1,0 +1,4 @@
+pub mod FirstViolated
+pub mod Local
+pub mod Looking
+pub mod Said
