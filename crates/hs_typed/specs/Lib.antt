@@ -1,0 +1,4 @@
+pub mod Faults
+pub mod Literals
+pub mod Comparing
+pub mod Rules
