@@ -1,5 +1,5 @@
 -- Files that are written anew, and groups that are added one behind the other.
-use Rattle.std.proofs.Common.{◌≡◌, ◌⊎◌, inl, inr, ℕ, ◌+◌, ◌-◌, ◌<◌, ◌≤◌, ◌^◌, Bool, true, false, List, [], ◌∷◌, ◌++◌, length, take, drop, slice_index, refl, sym, ◌∙◌, ap, arith, append_assoc, length-append, take-append-drop}
+use Rattle.std.proofs.Common.{◌≡◌, ◌⊎◌, inl, inr, ℕ, ◌+◌, ◌-◌, ◌<◌, ◌≤◌, ◌^◌, Bool, true, false, List, [], ◌∷◌, ◌++◌, length, take, drop, refl, sym, ◌∙◌, ap, arith, append_assoc, length-append, take-append-drop}
 use Rattle.std.proofs.lemmas.List.{drop_at, drop-drop}
 use Rattle.hs_host.specs.Disk.{Pending}
 use Rattle.hs_host.specs.Files.{Five, of, piece, overwrite}
@@ -9,7 +9,7 @@ use Rattle.hs_gate.specs.declared.gated.Gated.{Gated}
 use Rattle.hs_gate.specs.Crash.{StandsOnDisk}
 use Rattle.hs_gate.specs.Gated.{appended}
 use Rattle.hs_gate.specs.Groups.{is_open, groups_at, spelled, end_of, groups_of, eight_bytes, number_of}
-use Rattle.hs_gate.specs.Rewriting.{IsKept, IsReady, IsClosedOrOld, IsRewriting, IsGroups, body_of}
+use Rattle.hs_gate.specs.Rewriting.{IsReady, IsClosedOrOld, IsRewriting, IsGroups, body_of}
 use Rattle.hs_gate.proofs.Fronts.{end_within}
 use Rattle.hs_gate.proofs.Numbers.{length-eight, number_of_eight}
 use Rattle.hs_gate.proofs.Pieces.{take_same, take-overwrite, length-overwrite, behind-overwrite, overwrite_on}

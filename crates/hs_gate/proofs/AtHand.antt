@@ -1,15 +1,14 @@
 -- What a reader of groups has at hand.
-use Rattle.std.proofs.Common.{◌≡◌, ℕ, ◌+◌, ◌-◌, ◌≤◌, List, [], length, take, drop, refl, sym, ◌∙◌, ap, arith, length-take, length-drop}
+use Rattle.std.proofs.Common.{◌≡◌, ℕ, ◌+◌, ◌-◌, ◌≤◌, List, [], length, take, drop, refl, ◌∙◌, ap, arith, length-take, length-drop}
 use Rattle.std.proofs.lemmas.List.{take-take}
 use Rattle.hs_host.specs.Files.{Five, of, piece}
 use Rattle.hs_gate.specs.declared.found.Found.TheVariants.{Closed, Group, Broken}
 use Rattle.hs_gate.specs.declared.group_reader.GroupReader.{GroupReader}
-use Rattle.hs_gate.specs.declared.scan.Ending.{Ending}
 use Rattle.hs_gate.specs.declared.window.Window.{Window}
 use Rattle.hs_gate.specs.Gated.{IsGated}
 use Rattle.hs_gate.specs.Groups.{groups_at, groups_of, whole, broken, ahead, spelled, end_of}
 use Rattle.hs_gate.specs.Reading.{IsReadTo, IsReadAll, read_so_far}
-use Rattle.hs_gate.specs.Scan.{found_in}
+use Rattle.hs_gate.specs.Scan.{Ending, found_in}
 use Rattle.hs_gate.specs.Window.{IsSound, Shows, Has}
 use Rattle.hs_gate.proofs.Fronts.{same_gated}
 use Rattle.hs_gate.proofs.Pieces.{from_window}

@@ -1,18 +1,16 @@
 -- A gated file whose bytes before a place stay as they were.
-use Rattle.std.proofs.Common.{◌≡◌, ℕ, ◌+◌, ◌*◌, ◌<◌, ◌≤◌, ◌^◌, ◌==◌, ◌&&◌, nat_le, nat_lt, Bool, true, false, List, [], ◌∷◌, ◌++◌, length, take, drop, get_or, slice_index, Some, refl, sym, ◌∙◌, ap, arith, zero-add, append_assoc, length-append, length-take, length-drop}
-use Rattle.std.proofs.lemmas.List.{append-nil, get_or-take, drop_at, length_push, take-take}
+use Rattle.std.proofs.Common.{◌≡◌, ℕ, ◌+◌, ◌*◌, ◌<◌, ◌≤◌, ◌^◌, ◌==◌, ◌&&◌, nat_le, nat_lt, Bool, true, false, List, [], ◌∷◌, ◌++◌, length, take, drop, get_or, slice_index, refl, sym, ◌∙◌, ap, arith, append_assoc, length-append, length-take, length-drop}
+use Rattle.std.proofs.lemmas.List.{append-nil, get_or-take, drop_at, take-take}
 use Rattle.std.proofs.lemmas.Bool.{leb-true, le-leb, lt-ltb}
 use Rattle.hs_host.specs.declared.file_kind.FileKind.{FileKind}
 use Rattle.hs_host.specs.Files.{Five, of, overwrite}
 use Rattle.hs_gate.specs.declared.gated.Gated.{Gated}
-use Rattle.hs_gate.specs.declared.gated.Front.{Front}
-use Rattle.hs_gate.specs.declared.scan.Ending.{Ending}
 use Rattle.hs_gate.specs.declared.found.Found.TheVariants.{Closed}
 use Rattle.hs_gate.specs.Groups.{Groups, whole, is_open, is_born, epoch_of, eight_bytes, spelled, end_of, groups_at, groups_of, and_groups, is_whole, size_of, number_of}
 use Rattle.hs_gate.specs.Crash.{HasSameHeader, HasMore}
-use Rattle.hs_gate.specs.Scan.{found_in, ending}
-use Rattle.hs_gate.specs.Gated.{IsFront, IsGated, IsAtRest, gated_of, reading_of, grown, appended, empty, started, created}
-use Rattle.hs_gate.proofs.Numbers.{number_same, length-spelled, length-spelled_append, length-group, few_groups, length-eight, number_of_eight}
+use Rattle.hs_gate.specs.Scan.{found_in}
+use Rattle.hs_gate.specs.Gated.{IsFront, IsGated, IsAtRest, gated_of, grown, appended, empty, started, created}
+use Rattle.hs_gate.proofs.Numbers.{number_same, length-spelled_append, few_groups, length-eight, number_of_eight}
 use Rattle.hs_gate.proofs.Pieces.{piece_same, take_same, take-overwrite, drop-overwrite, length-overwrite}
 use Rattle.hs_gate.proofs.Steps.{groups-drop, closed_first, closed_there, chose_closed}
 use Rattle.hs_gate.proofs.Carried.{walk, carry, prepend}
@@ -78,9 +76,6 @@ made file epoch groups end = record { file = file; epoch = epoch; groups = group
 
 abbrev with_broken : List (List ℕ) → Bool → Groups
 with_broken payloads is_broken = record { payloads = payloads; is_broken = is_broken }
-
-abbrev pub front_with : Gated → Bool → Front
-front_with gated is_broken = record { gated = gated; is_broken = is_broken }
 
 -- bytes that begin with the same gate, which isn't open
 closed_same : (new old : List ℕ) → take 1 new ≡ take 1 old → found_in old ≡ Closed → found_in new ≡ Closed
@@ -272,19 +267,12 @@ created_fresh new file is = fresh new file 1 1 (omega arith) is
 take_ten : (header bytes : List ℕ) → header ≡ take (length header) bytes → 10 ≤ length header → take 10 header ≡ take 10 bytes
 take_ten header bytes front long = ap (λ (l : List ℕ). take 10 l) front ∙ take-take 10 (length header) bytes long
 
--- what is made of a header and of the place where the groups end
-pub front_is : (file : FileKind) (bytes header : List ℕ) (epoch : ℕ) (found : Ending) → 10 < length bytes → header ≡ take (length header) bytes → 10 ≤ length header → get_or header 1 0 ≡ 1
-    → epoch ≡ number_of (drop 2 header) → found ≡ ending 0 10 (groups_of bytes)
-    → (is_open bytes ≡ true) × (made file epoch found.groups found.end ≡ gated_of file bytes (groups_of bytes).payloads)
-front_is file bytes header epoch found long front enough second epoch_is found_is =
+-- what a header says
+pub header_read : (bytes header : List ℕ) (epoch : ℕ) → 10 < length bytes → header ≡ take (length header) bytes → 10 ≤ length header → get_or header 1 0 ≡ 1
+    → epoch ≡ number_of (drop 2 header) → (is_open bytes ≡ true) × (epoch ≡ epoch_of bytes)
+header_read bytes header epoch long front enough second epoch_is =
     let ten = take_ten header bytes front enough in
     let gate : slice_index bytes 1 ≡ 1 = sym (get_or-take 10 bytes 1 0 (omega arith)) ∙ ap (λ (l : List ℕ). get_or l 1 0) (sym ten) ∙ get_or-take 10 header 1 0 (omega arith) ∙ second in
     let longer : nat_le 11 (length bytes) ≡ true = le-leb 11 (length bytes) (omega (arith, long)) in
     let same_epoch : number_of (drop 2 header) ≡ epoch_of bytes = number_same (drop 2 header) (drop 2 bytes) (piece_same 2 8 10 header bytes ten (omega arith)) in
-    let count : found.groups ≡ length (groups_of bytes).payloads = ap (λ (e : Ending). e.groups) found_is ∙ zero-add (length (groups_of bytes).payloads) in
-    let end : found.end ≡ end_of (groups_of bytes).payloads = ap (λ (e : Ending). e.end) found_is in
-    (rw (longer, gate) refl, same_gated file file _ _ _ _ _ _ refl (epoch_is ∙ same_epoch) count end)
-
-pub reads_front : (file : FileKind) (bytes : List ℕ) (gated : Gated) (is_broken : Bool) → is_open bytes ≡ true → gated ≡ gated_of file bytes (groups_of bytes).payloads → is_broken ≡ (groups_of bytes).is_broken
-    → Some (front_with gated is_broken) ≡ reading_of file bytes
-reads_front file bytes gated is_broken opened is broken_is = rw (opened, is, broken_is) refl
+    (rw (longer, gate) refl, epoch_is ∙ same_epoch)

@@ -10,7 +10,7 @@ use Rattle.hs_host.specs.Moments.{Moment, OneFile, disk_of}
 use Rattle.hs_host.proofs.Torn.{front_stays, uncovered}
 use Rattle.hs_gate.specs.Groups.{is_open, is_born, epoch_of}
 use Rattle.hs_gate.specs.Crash.{IsWriting, called, done}
-use Rattle.hs_gate.specs.Rewriting.{IsKept, IsReady, IsClosing, IsClosedOrOld}
+use Rattle.hs_gate.specs.Rewriting.{IsKept, IsReady, IsClosing}
 use Rattle.hs_gate.proofs.Fronts.{born_by, born_same, get_same}
 use Rattle.hs_gate.proofs.Moments.{settled_keeps}
 use Rattle.hs_gate.proofs.Numbers.{number_same}

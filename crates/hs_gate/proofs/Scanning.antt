@@ -1,16 +1,15 @@
--- The steps of a scan.
-use Rattle.std.proofs.Common.{◌≡◌, ℕ, ◌+◌, ◌-◌, Bool, true, false, List, [], ◌∷◌, length, take, drop, refl, sym, ◌∙◌, ap, arith, length-drop}
+-- What is found in a window, and where the groups end behind one more.
+use Rattle.std.proofs.Common.{◌≡◌, ℕ, ◌+◌, ◌-◌, Bool, List, ◌∷◌, length, take, drop, refl, sym, ◌∙◌, ap, arith, length-drop}
 use Rattle.hs_host.specs.Files.{piece}
 use Rattle.hs_gate.specs.declared.found.Found.{Found}
-use Rattle.hs_gate.specs.declared.found.Found.TheVariants.{Closed, Group, Broken}
-use Rattle.hs_gate.specs.declared.scan.Ending.{Ending}
+use Rattle.hs_gate.specs.declared.found.Found.TheVariants.{Group}
 use Rattle.hs_gate.specs.declared.window.Window.{Window}
-use Rattle.hs_gate.specs.Groups.{Groups, whole, broken, groups_at, spelled}
-use Rattle.hs_gate.specs.Scan.{found_in, ending}
+use Rattle.hs_gate.specs.Groups.{Groups, groups_at, spelled}
+use Rattle.hs_gate.specs.Scan.{Ending, found_in, ending}
 use Rattle.hs_gate.specs.Window.{Shows, Has}
 use Rattle.hs_gate.proofs.Numbers.{length-spelled}
 use Rattle.hs_gate.proofs.Pieces.{from_window, length-piece}
-use Rattle.hs_gate.proofs.Steps.{groups-drop, closed_first, broken_first, at_group, at_fits}
+use Rattle.hs_gate.proofs.Steps.{at_group, at_fits}
 
 -- what is found in the window is what is found in the file
 pub seen_found : (window : Window) (bytes seen : List ℕ) (at behind : ℕ) (f : Found) → Shows window bytes → Has window at 0 → seen ≡ drop (at - window.base) (take window.count window.buffer.items)
@@ -23,16 +22,6 @@ made groups end is_broken = record { groups = groups; end = end; is_broken = is_
 
 same_ending : (n n' p p' : ℕ) (b b' : Bool) → n ≡ n' → p ≡ p' → b ≡ b' → made n p b ≡ made n' p' b'
 same_ending n n' p p' b b' nn pp bb = cc
-
-pub ends_closed : (groups at : ℕ) (bytes : List ℕ) (all : Ending) → found_in (drop at bytes) ≡ Closed → ending groups at (groups_at at bytes) ≡ all → made groups at false ≡ all
-ends_closed groups at bytes all e is =
-    let none : groups_at at bytes ≡ whole [] = groups-drop at bytes ∙ closed_first (drop at bytes) e in
-    same_ending groups (groups + 0) at (at + 0) false false (omega arith) (omega arith) refl ∙ ap (λ (g : Groups). ending groups at g) (sym none) ∙ is
-
-pub ends_broken : (groups at : ℕ) (bytes : List ℕ) (all : Ending) → found_in (drop at bytes) ≡ Broken → ending groups at (groups_at at bytes) ≡ all → made groups at true ≡ all
-ends_broken groups at bytes all e is =
-    let none : groups_at at bytes ≡ broken [] = groups-drop at bytes ∙ broken_first (drop at bytes) e in
-    same_ending groups (groups + 0) at (at + 0) true true (omega arith) (omega arith) refl ∙ ap (λ (g : Groups). ending groups at g) (sym none) ∙ is
 
 pub goes_on : (groups at size : ℕ) (bytes : List ℕ) (all : Ending) → found_in (drop at bytes) ≡ Group size → ending groups at (groups_at at bytes) ≡ all
     → ending (groups + 1) (at + (9 + size)) (groups_at (at + (9 + size)) bytes) ≡ all

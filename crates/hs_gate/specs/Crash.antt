@@ -1,7 +1,6 @@
 -- What a crash leaves of a gated file.
 use Rattle.std.specs.Prelude.{◌≡◌, ◌⊎◌, ℕ, ◌+◌, ◌≤◌, List, length, take}
 use Rattle.hs_host.specs.declared.file_kind.FileKind.{FileKind}
-use Rattle.hs_host.specs.Disk.{Pending}
 use Rattle.hs_host.specs.Files.{Five, of, overwrite, piece}
 use Rattle.hs_host.specs.Prefixes.{KeepsPrefix}
 use Rattle.hs_host.specs.Moments.{Moment, History, IsWritten, IsSynced, disk_of}

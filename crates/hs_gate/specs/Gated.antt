@@ -4,7 +4,6 @@ use Rattle.hs_host.specs.declared.file_kind.FileKind.{FileKind}
 use Rattle.hs_host.specs.Files.{Five, of, overwrite}
 use Rattle.hs_gate.specs.declared.gate_fault.GateFault.{GateFault}
 use Rattle.hs_gate.specs.declared.gate_fault.GateFault.TheVariants.{Disk, Broken, NoMemory}
-use Rattle.hs_gate.specs.declared.gated.Front.{Front}
 use Rattle.hs_gate.specs.declared.gated.Gated.{Gated}
 use Rattle.hs_gate.specs.declared.part.Part.{Part}
 use Rattle.hs_gate.specs.Groups.{is_open, is_born, epoch_of, eight_bytes, end_of, ahead, groups_at, groups_of, spelled}
@@ -13,17 +12,13 @@ use Rattle.hs_gate.specs.Groups.{is_open, is_born, epoch_of, eight_bytes, end_of
 abbrev pub gated_of : FileKind → List ℕ → List (List ℕ) → Gated
 gated_of file bytes payloads = record { file = file; epoch = epoch_of bytes; groups = length payloads; end = end_of payloads }
 
-abbrev pub front_of : FileKind → List ℕ → Front
-front_of file bytes = record { gated = gated_of file bytes (groups_of bytes).payloads; is_broken = (groups_of bytes).is_broken }
-
--- what these bytes of a file are read as: none where it isn't open
-abbrev pub reading_of : FileKind → List ℕ → Option Front
-reading_of file bytes = if is_open bytes then Some (front_of file bytes) else None
-
--- where a group is broken, the first that is, counted from 1
-abbrev pub whole_or_broken : Option Front → Result (Option Gated) GateFault
-whole_or_broken None = Ok None
-whole_or_broken (Some front) = if front.is_broken then Err (Broken (front.gated.groups + 1)) else Ok (Some front.gated)
+-- what these bytes of a file are read as: none where it isn't open; and where a group is broken, the first that is, counted
+-- from 1
+abbrev pub reading_of : FileKind → List ℕ → Result (Option Gated) GateFault
+reading_of file bytes =
+    if is_open bytes then
+    if (groups_of bytes).is_broken then Err (Broken (length (groups_of bytes).payloads + 1)) else Ok (Some (gated_of file bytes (groups_of bytes).payloads))
+    else Ok None
 
 -- an answer other than a fault of the device and want of memory is this one
 abbrev pub Answers : Result (Option Gated) GateFault → Result (Option Gated) GateFault → Type 0

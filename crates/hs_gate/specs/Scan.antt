@@ -1,8 +1,7 @@
--- A scan of the groups of a file.
-use Rattle.std.specs.Prelude.{ℕ, ◌+◌, ◌≤◌, ◌==◌, if◌then◌else◌, List, [], ◌∷◌, length}
+-- What stands at the place of a group, and where groups end.
+use Rattle.std.specs.Prelude.{ℕ, ◌+◌, ◌≤◌, ◌==◌, Bool, if◌then◌else◌, List, [], ◌∷◌, length}
 use Rattle.hs_gate.specs.declared.found.Found.{Found}
 use Rattle.hs_gate.specs.declared.found.Found.TheVariants.{Closed, Group, Broken}
-use Rattle.hs_gate.specs.declared.scan.Ending.{Ending}
 use Rattle.hs_gate.specs.Groups.{Groups, is_whole, size_of, spelled}
 
 -- what begins with these bytes
@@ -15,6 +14,12 @@ abbrev pub FitsIn : ℕ → Found → Type 0
 FitsIn behind Closed = Unit {0}
 FitsIn behind (Group size) = 9 + size ≤ behind
 FitsIn behind Broken = Unit {0}
+
+-- how many groups there are, the place behind the last, and whether a broken one stands there in place of a gate that isn't open
+pub record Ending : Type 0 where
+  pub groups : ℕ
+  pub end : ℕ
+  pub is_broken : Bool
 
 -- where the groups end, of which so many stand before a place and these from there on
 abbrev pub ending : ℕ → ℕ → Groups → Ending

@@ -1,6 +1,9 @@
 // What stands at the place of a group.
 ghost use Rattle.std.specs.Prelude.{◌≡◌, ℕ, ◌+◌, ◌<◌, ◌≤◌, min, List, length, take};
 
+/// The place of the first group.
+pub const FIRST_PLACE: u64 = 10;
+
 /// What stands at the place of a group.
 #[derive(Clone, Copy, Debug, PartialEq, Eq)]
 pub enum Found {

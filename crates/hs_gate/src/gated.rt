@@ -31,20 +31,12 @@ pub struct Gated {
     pub end: u64,
 }
 
-/// The groups of an open gated file that stand in front of the first broken one.
-#[derive(Clone, Copy, Debug, PartialEq, Eq)]
-pub struct Front {
-    /// The file up to these groups. `end` is the place behind them.
-    pub gated: Gated,
-    /// Whether a broken group stands there, in place of a gate that isn't open.
-    pub is_broken: bool,
-}
-
 impl Gated {
     ghost use Rattle.hs_gate.specs.Gated.{IsFront, IsGated, IsAtRest, IsPlace, TakesPart, grown, appended};
 
     /// Reads the group whose gate is at a place in bytes: 10 for the first group, `next` of the part before for any other,
-    /// and `end` where none is left.
+    /// and `end` where none is left. It is for groups that are read by their places, as those of the backup will be; no crate
+    /// of the program calls it yet. Those of the log are read one after another (`GroupReader`).
     ///
     /// It answers none exactly where `at` is `end`. `Broken(at)` comes only where the bytes from there to `end`,
     /// as they were read, are no whole group with one more byte behind it, and never over an honest host. `Disk`

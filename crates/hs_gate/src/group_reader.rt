@@ -6,10 +6,9 @@ ghost use Rattle.hs_gate.specs.Faults.{HasGateCause, FailsWith};
 ghost use Rattle.hs_gate.specs.Gated.{IsGated};
 ghost use Rattle.hs_gate.specs.Groups.{is_open};
 
-use crate::found::{Found, look, number};
+use crate::found::{FIRST_PLACE, Found, look, number};
 use crate::gate_fault::GateFault;
 use crate::gated::Gated;
-use crate::scan::FIRST_PLACE;
 use crate::window::Window;
 use hs_host::{FileKind, Host, len};
 use std::alloc::Global;

@@ -19,14 +19,13 @@ mod laws;
 mod part;
 mod read;
 mod reading;
-mod scan;
 mod start;
 mod window;
 mod writing;
 
 pub use batch::Batch;
 pub use gate_fault::GateFault;
-pub use gated::{Front, Gated};
+pub use gated::Gated;
 pub use group_reader::GroupReader;
 pub use laws::{groups_are_added_one_by_one, groups_are_spelled, rewritten_files_are_read};
 pub use part::Part;

@@ -9,10 +9,10 @@ ghost use Rattle.hs_gate.specs.Faults.{FailsWith};
 ghost use Rattle.hs_gate.specs.Groups.{is_born, eight_bytes};
 ghost use Rattle.hs_gate.specs.Rewriting.{IsKept, IsReady, IsClosing, IsRewriting, body_of};
 
+use crate::found::FIRST_PLACE;
 use crate::gate_fault::GateFault;
 use crate::gated::Gated;
 use crate::reading::byte_at;
-use crate::scan::FIRST_PLACE;
 use crate::writing::{replace_from, write_synced};
 use hs_host::{FileKind, Host, cut, len, sync, write};
 

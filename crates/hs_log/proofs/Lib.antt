@@ -1,1 +1,2 @@
+pub mod CommitTexts
 pub mod Logs

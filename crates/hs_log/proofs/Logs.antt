@@ -1,5 +1,5 @@
 -- The log with more texts.
-use Rattle.std.proofs.Common.{◌≡◌, ◌⊎◌, inl, inr, ℕ, ◌+◌, ◌<◌, ◌==◌, ◌&&◌, Bool, true, false, List, [], ◌∷◌, ◌++◌, length, Result, Ok, Err, OnErr, refl, sym, subst, ◌∙◌, ap, arith}
+use Rattle.std.proofs.Common.{◌≡◌, inl, inr, ℕ, ◌+◌, ◌<◌, ◌==◌, ◌&&◌, Bool, true, false, List, [], ◌∷◌, ◌++◌, length, Result, Ok, Err, OnErr, refl, sym, subst, ◌∙◌, ap, arith}
 use Rattle.std.proofs.lemmas.Bool.{and_parts, and_from, eqb-true, eq-eqb}
 use Rattle.std.proofs.lemmas.Bool.Decides.{nat_tests}
 use Rattle.hs_host.specs.declared.file_kind.FileKind.{FileKind}
@@ -8,7 +8,7 @@ use Rattle.hs_host.specs.declared.source.Source as source
 use Rattle.hs_host.specs.declared.host.Host as host
 use Rattle.hs_host.specs.Disk.{Pending, Leaves, settled}
 use Rattle.hs_host.specs.Files.{Five, of, IsOnly}
-use Rattle.hs_host.specs.Moments.{on_file, Moment, History, Since, OneFile, IsStill, disk_of, with_disk}
+use Rattle.hs_host.specs.Moments.{Moment, History, Since, OneFile, IsStill, disk_of, with_disk}
 use Rattle.hs_host.specs.Prefixes.{KeepsPrefix}
 use Rattle.hs_host.specs.Used.{Told, ReadsFiles, Moves, ChangesFile}
 use Rattle.hs_host.proofs.Changing.{one_weaker}
@@ -24,7 +24,7 @@ use Rattle.hs_gate.proofs.Moments.{settled_keeps}
 use Rattle.hs_gate.proofs.Torn.{as_before}
 use Rattle.hs_log.specs.declared.log.Log.{Log}
 use Rattle.hs_log.specs.declared.log_reader.LogReader.{LogReader}
-use Rattle.hs_log.specs.Log.{IsLogOf, IsWholeLog, IsSameLog, IsLog, IsBirth, IsOpening, IsUnbornOrNew, HasNoneOrAll, is_born, texts_of, is_broken, has_header, epoch_in}
+use Rattle.hs_log.specs.Log.{IsLogOf, IsWholeLog, IsSameLog, IsLog, IsOpening, IsUnbornOrNew, HasNoneOrAll, is_born, texts_of, is_broken, has_header, epoch_in}
 use Rattle.hs_log.specs.LogReading.{IsBegun, left_in, place_in}
 
 whole_by : (g : Groups) → g.is_broken ≡ false → g ≡ whole g.payloads

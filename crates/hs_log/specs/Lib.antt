@@ -1,3 +1,4 @@
+pub mod CommitText
 pub mod Faults
 pub mod Log
 pub mod LogReading

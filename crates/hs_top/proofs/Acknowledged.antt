@@ -29,7 +29,8 @@ use Rattle.hs_top.specs.declared.database.Database.{Database}
 use Rattle.hs_top.specs.declared.statement.Statement.{Statement}
 use Rattle.hs_top.specs.declared.statement.Statement.TheVariants.{Create, Insert, Select}
 use Rattle.hs_top.specs.declared.table.Table.{Table}
-use Rattle.hs_top.specs.CommitText.{commit_text}
+use Rattle.hs_log.specs.CommitText.{commit_text}
+use Rattle.hs_top.specs.CommitText.{change_line}
 use Rattle.hs_top.specs.Database.{Outcome, performed, executed, created, inserted, selected, refused, committed, with_row, table_of, first_repeated, is_among}
 use Rattle.hs_top.specs.Machine.{State, step_of, entered, if_commit}
 use Rattle.hs_top.specs.Sessions.{Admitted, admitted as session_admitted}
@@ -129,7 +130,7 @@ one_text (item.Entry n name text at) s = entry (session_admitted name s.sessions
     entry : (j : Option Admitted) (st : Option Statement) → (entered n name st s j).next.database.commits ≡ s.database.commits + length (entered n name st s j).texts
     entry None st = omega arith
     entry (Some j) None = omega arith
-    entry (Some j) (Some st) = executed_counts (commit_text s.last j.number st) s.database st
+    entry (Some j) (Some st) = executed_counts (commit_text s.last j.number (change_line st)) s.database st
 
 pub commits_grow : (i : Item) (s : State) → s.database.commits ≤ (step_of i s).next.database.commits
 commits_grow i s = omega (arith, one_text i s)

@@ -18,10 +18,9 @@ use Rattle.std.proofs.lemmas.Slice.Eq.{starts_is}
 use Rattle.std.proofs.lemmas.Str.Parse.{numerals_by_value, tells_digits}
 use Rattle.hs_values.specs.declared.value.Value.{Value}
 use Rattle.hs_values.specs.declared.value.Value.TheVariants.{Int}
-use Rattle.hs_top.specs.Statement.{◌>>=◌, after, is_digit, is_capital, name_length, name_of, column_of, is_numeral, integer_of, session_of, has_minus, without_minus, number_of, value_of}
+use Rattle.hs_top.specs.Statement.{◌>>=◌, after, is_digit, is_capital, name_length, name_of, column_of, is_numeral, integer_of, has_minus, without_minus, number_of, value_of}
 use Rattle.hs_machine.specs.Values.{value_text}
 use Rattle.hs_top.specs.Spelling.{IsName, IsBigint, column_text}
-use Rattle.hs_top.specs.CommitText.{IsSession}
 
 -- what is taken from an answer was there
 pub bind_some : {A B : Type 0} (o : Option A) (f : A → Option B) (y : B) → (o >>= f) ≡ Some y → (x : A) × (o ≡ Some x) × (f x ≡ Some y)
@@ -143,25 +142,6 @@ decimal_numeral (suc n) small = numeral_from (decimal (suc n)) (decimal_nonempty
 
 digits_written : (ds : List ℕ) → AllDigits 10 ds → is_numeral ds ≡ true → digits_value 10 ds < 2 ^ 64 → decimal (digits_value 10 ds) ≡ ds
 digits_written ds d h small = let leads = numeral_leads ds h in decimal-digits_value (numerals_by_value _ tells_digits) ds d leads.0 leads.1 small
-
--- the sessions of marks
-pub session_spelled : (ds : List ℕ) (session : ℕ) → AllDigits 10 ds → session_of ds ≡ Some session → IsSession session × (ds ≡ decimal session)
-session_spelled ds session d h =
-    let v : ℕ = digits_value 10 ds in
-    let parts = cond_some (is_numeral ds && (nat_lt 0 v && nat_lt v (2 ^ 32))) v session h in
-    let tests = and_parts (is_numeral ds) (nat_lt 0 v && nat_lt v (2 ^ 32)) parts.0 in
-    let sizes = and_parts (nat_lt 0 v) (nat_lt v (2 ^ 32)) tests.1 in
-    let some : 0 < v = ltb-true 0 v sizes.0 in
-    let small : v < 2 ^ 32 = ltb-true v (2 ^ 32) sizes.1 in
-    subst (λ (n : ℕ). IsSession n × (ds ≡ decimal n)) parts.1 ((some, small), sym (digits_written ds d tests.0 (omega arith)))
-
-pub session_back : (session : ℕ) → IsSession session → session_of (decimal session) ≡ Some session
-session_back session h =
-    let small : session < 2 ^ 64 = omega arith in
-    let value : digits_value 10 (decimal session) ≡ session = (decimal_is_IsNumeral session small).1 in
-    let some : 0 < digits_value 10 (decimal session) = omega (arith, value) in
-    let below : digits_value 10 (decimal session) < 2 ^ 32 = omega (arith, value) in
-    cond-true _ _ _ (and_from _ _ (decimal_numeral session small) (and_from _ _ (lt-ltb _ _ some) (lt-ltb _ _ below))) ∙ ap Some value
 
 -- numbers
 abbrev signed : Bool → List ℕ → List ℕ

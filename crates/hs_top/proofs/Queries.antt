@@ -4,7 +4,8 @@ use Rattle.hs_top.specs.declared.database.Database.{Database}
 use Rattle.hs_top.specs.declared.table.Table.{Table}
 use Rattle.hs_top.specs.declared.statement.Statement.{Statement}
 use Rattle.hs_top.specs.declared.statement.Statement.TheVariants.{Select}
-use Rattle.hs_top.specs.CommitText.{commit_text}
+use Rattle.hs_log.specs.CommitText.{commit_text}
+use Rattle.hs_top.specs.CommitText.{change_line}
 use Rattle.hs_top.specs.Machine.{if_commit, logged}
 use Rattle.hs_top.specs.Database.{selected, performed, table_of}
 
@@ -22,4 +23,4 @@ selected_logs db name text (Some table) = refl
 -- and logs nothing
 pub query_logs : (last : Option ℕ) (session : ℕ) (db : Database) (s : Option Statement) (name : List ℕ) → s ≡ Some (Select name) → logged last session s (performed db s).reply ≡ []
 query_logs last session db s name is =
-    ap (λ (x : Option Statement). logged last session x (performed db x).reply) is ∙ selected_logs db name (commit_text last session (Select name)) (table_of db.tables name)
+    ap (λ (x : Option Statement). logged last session x (performed db x).reply) is ∙ selected_logs db name (commit_text last session (change_line (Select name))) (table_of db.tables name)

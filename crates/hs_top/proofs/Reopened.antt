@@ -18,7 +18,8 @@ use Rattle.hs_machine.specs.declared.refusal.Refusal.TheVariants.{NotBuilt}
 use Rattle.hs_machine.specs.Machine.{after, whole}
 use Rattle.hs_machine.specs.Replies.{is_commit}
 use Rattle.hs_top.specs.Statement.{◌>>=◌, statement_of}
-use Rattle.hs_top.specs.CommitText.{commit_text, commit_of, IsSession, IsChange}
+use Rattle.hs_log.specs.CommitText.{IsSession, commit_text}
+use Rattle.hs_top.specs.CommitText.{change_line, commit_of, IsChange}
 use Rattle.hs_top.specs.Database.{Outcome, executed, performed, created, inserted, selected, refused, committed, with_row, table_of, first_repeated}
 use Rattle.hs_top.specs.Machine.{State, Step, machine, step_of, entered, did, turn, steps, texts, texts_of, last_state}
 use Rattle.hs_top.specs.Opening.{Opened, nothing_logged, redone, replayed, if_made, unless_broken, given, opened_of, texts_at, texts_from, begun_with, opened_at, ended_with, IsWholeLog}
@@ -111,10 +112,10 @@ executed_counts db (Select name) is = absurd (selected_quiet db name (table_of d
 
 -- the text of a commit makes it again
 module _ (last : Option ℕ) (db : Database) (n : ℕ) (s : Statement) (out : Outcome) (out_is : out ≡ executed db s) where
-  remade : (c : Bool) → is_commit out.reply ≡ c → (c ≡ true → commit_of last (commit_text last n s) ≡ Some (record { session = n; statement = s })) → (c ≡ false → out.database ≡ db)
-      → replayed (record { last = last; database = db }) (cond c (commit_text last n s ∷ []) []) ≡ Ok (record { last = cond c (Some n) last; database = out.database })
+  remade : (c : Bool) → is_commit out.reply ≡ c → (c ≡ true → commit_of last (commit_text last n (change_line s)) ≡ Some (record { session = n; statement = s })) → (c ≡ false → out.database ≡ db)
+      → replayed (record { last = last; database = db }) (cond c (commit_text last n (change_line s) ∷ []) []) ≡ Ok (record { last = cond c (Some n) last; database = out.database })
   remade true is read same =
-      let found : redone (record { last = last; database = db }) (commit_text last n s) ≡ Some (record { last = Some n; database = out.database }) =
+      let found : redone (record { last = last; database = db }) (commit_text last n (change_line s)) ≡ Some (record { last = Some n; database = out.database }) =
       ap (λ (x : Option Commit). x >>= λ c. if_made c.session (executed db c.statement)) (read refl)
       ∙ sym (ap (if_made n) out_is)
       ∙ ap (λ (b : Bool). cond b (Some (record { last = Some n; database = out.database })) None) is in
@@ -224,15 +225,15 @@ made_session n out next session is = by_commit (is_commit out.reply) is
     by_commit true e = subst (λ (o : Opened). IfSome o.last IsSession) (same_Some _ _ e) session
     by_commit false e = absurd (cc)
 
-redone_session : (o : Opened) (text : List ℕ) (next : Opened) → IfSome o.last IsSession → redone o text ≡ Some next → IfSome next.last IsSession
-redone_session o text next before is =
+redone_session : (o : Opened) (text : List ℕ) (next : Opened) → redone o text ≡ Some next → IfSome next.last IsSession
+redone_session o text next is =
     let found = bind_some (commit_of o.last text) (λ c. if_made c.session (executed o.database c.statement)) next is in
-    made_session found.0.session (executed o.database found.0.statement) next (commit_lawful o.last text found.0 before found.1).0 found.2
+    made_session found.0.session (executed o.database found.0.statement) next (commit_lawful o.last text found.0 found.1).0 found.2
 
 pub last_session : (ts : List (List ℕ)) (o p : Opened) → IfSome o.last IsSession → replayed o ts ≡ Ok p → IfSome p.last IsSession
 last_session [] o p before is = subst (λ (x : Opened). IfSome x.last IsSession) (same_Ok o p is) before
 last_session (t ∷ ts) o p before is =
-    one_session (redone o t) (o.database.commits + 1) ts p (λ next. redone_session o t next before) (λ next made session. last_session ts next p session made) is
+    one_session (redone o t) (o.database.commits + 1) ts p (λ next. redone_session o t next) (λ next made session. last_session ts next p session made) is
 
 -- and there are as many commits
 made_counts : (n : ℕ) (db : Database) (st : Statement) (next : Opened) → if_made n (executed db st) ≡ Some next → next.database.commits ≡ db.commits + 1

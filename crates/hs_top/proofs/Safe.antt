@@ -19,7 +19,8 @@ use Rattle.hs_top.specs.declared.statement.Statement.{Statement}
 use Rattle.hs_top.specs.Crash.{Survives, IsSafe, IsKept, IsFound, GivesSame, AcknowledgesBehind}
 use Rattle.hs_top.specs.Database.{performed}
 use Rattle.hs_top.specs.Holding.{Holds, IsHeld}
-use Rattle.hs_top.specs.CommitText.{commit_text}
+use Rattle.hs_log.specs.CommitText.{commit_text}
+use Rattle.hs_top.specs.CommitText.{change_line}
 use Rattle.hs_top.specs.Machine.{State, machine, step_of, entered, logged, turn, steps, texts, texts_of}
 use Rattle.hs_top.specs.Opening.{Opened, nothing_logged, replayed, opened_of, opened_at, texts_at, texts_from, begun_with}
 use Rattle.hs_top.specs.Sessions.{Admitted, admitted}
@@ -39,7 +40,7 @@ few_if false text = inl refl
 few_logged : (last : Option ℕ) (session : ℕ) (statement : Option Statement) (reply : Reply) → IsFew (logged last session statement reply)
 unfolding IsFew
 few_logged last session None reply = inl refl
-few_logged last session (Some statement) reply = few_if (is_commit reply) (commit_text last session statement)
+few_logged last session (Some statement) reply = few_if (is_commit reply) (commit_text last session (change_line statement))
 
 few_entered : (number : ℕ) (name : List ℕ) (statement : Option Statement) (s : State) (j : Option Admitted) → IsFew (entered number name statement s j).texts
 unfolding IsFew

@@ -11,7 +11,8 @@ use Rattle.hs_machine.specs.Machine.{Turn, Machine, after, whole, rest_of as lin
 use Rattle.hs_machine.specs.Replies.{is_commit, reply_lines}
 use Rattle.hs_top.specs.declared.statement.Statement.{Statement}
 use Rattle.hs_top.specs.Statement.{statement_of}
-use Rattle.hs_top.specs.CommitText.{commit_text}
+use Rattle.hs_log.specs.CommitText.{commit_text}
+use Rattle.hs_top.specs.CommitText.{change_line}
 use Rattle.hs_top.specs.declared.database.Database.{Database}
 use Rattle.hs_top.specs.Database.{performed, Outcome}
 use Rattle.hs_top.specs.Sessions.{Admitted, admitted}
@@ -42,7 +43,7 @@ if_commit reply text = if is_commit reply then text ∷ [] else []
 -- the text of the commit that a statement of a session made
 abbrev pub logged : Option ℕ → ℕ → Option Statement → Reply → List (List ℕ)
 logged last session None reply = []
-logged last session (Some statement) reply = if_commit reply (commit_text last session statement)
+logged last session (Some statement) reply = if_commit reply (commit_text last session (change_line statement))
 
 abbrev pub last_after : Option ℕ → ℕ → Reply → Option ℕ
 last_after last session reply = if is_commit reply then Some session else last

@@ -52,10 +52,6 @@ has_minus (b ∷ bs) = b == 45
 abbrev pub without_minus : List ℕ → List ℕ
 without_minus bytes = if has_minus bytes then drop 1 bytes else bytes
 
--- the number of a session, from 1 to 2 ^ 32 - 1
-abbrev pub session_of : List ℕ → Option ℕ
-session_of digits = if is_numeral digits && (nat_lt 0 (digits_value 10 digits) && nat_lt (digits_value 10 digits) (2 ^ 32)) then Some (digits_value 10 digits) else None
-
 -- the number at the front, and what stands behind it
 abbrev pub number_of : List ℕ → Option (ℤ × List ℕ)
 number_of bytes =

@@ -1,5 +1,5 @@
 // Hands output over to the host.
-ghost use Rattle.std.specs.Prelude.{◌≡◌, [], ◌++◌, OnOk, OnErr, IfErr, MatchResult};
+ghost use Rattle.std.specs.Prelude.{◌≡◌, ◌<◌, ◌≤◌, [], ◌++◌, length, OnOk, OnErr, IfErr, MatchResult};
 ghost use Rattle.hs_host.specs.Moments.{Since};
 ghost use Rattle.hs_top.specs.Holding.{IsHandedOver};
 ghost use Rattle.hs_top.specs.Machine.{WritesPrefix};
@@ -29,6 +29,8 @@ pub fn flush<H: Host>(output: &mut Output, host: &mut H) -> Result<(), Stop>
 /// Hands over what is gathered, where it is 64 KiB or more.
 #[tactic(auto, using(crate::proofs::Prefixes::nothing_yet, hs_host::proofs::Passing::since_none))]
 pub fn flush_when_large<H: Host>(output: &mut Output, host: &mut H) -> Result<(), Stop>
+    ensures small { length output.old < MOST_GATHERED → (host.new ≡ host.old) × (output.new ≡ output.old) }
+    ensures large { MOST_GATHERED ≤ length output.old → output.new ≡ [] }
     ensures done { H.tells → OnOk result (H.written host.new ++ output.new ≡ H.written host.old ++ output.old) }
     ensures empty { OnErr result (output.new ≡ []) }
     ensures front { H.tells → WritesPrefix (H.written host.old) (H.written host.new) output.old }

@@ -4,7 +4,7 @@ ghost use Rattle.std.specs.List.{AllPass};
 ghost use Rattle.std.specs.Char.{digit_value};
 ghost use Rattle.std.specs.Fmt.{decimal, signed_decimal};
 ghost use Rattle.std.specs.Str.Parse.{digits_value};
-ghost use Rattle.hs_top.specs.Statement.{is_numeral, integer_of, session_of, is_digit};
+ghost use Rattle.hs_top.specs.Statement.{is_numeral, integer_of, is_digit};
 
 use itoa::{Buffer, write_digits};
 use std::alloc::AllocError;
@@ -25,21 +25,6 @@ pub fn integer(negative: bool, digits: &[u8]) -> Option<i64>
         return None;
     }
     i64::try_from(-i128::from(size)).ok()
-}
-
-/// The number of a session that these digits write, from 1 to 2^32 - 1 without a leading zero.
-pub fn session_number(digits: &[u8]) -> Option<u32>
-    requires { AllPass is_digit digits.now }
-    ensures { result ≡ session_of digits.now }
-{
-    if !is_numeral(digits) {
-        return None;
-    }
-    let number = natural(digits)?;
-    if number == 0 {
-        return None;
-    }
-    u32::try_from(number).ok()
 }
 
 fn is_numeral(digits: &[u8]) -> bool

@@ -17,7 +17,8 @@ ghost use Rattle.hs_top.specs.Machine.{State, machine, step_of, steps, texts, on
 ghost use Rattle.hs_top.specs.Opening.{Opened, begun_with, opened_at, opened_of, replayed, texts_at, texts_from, ended_with, IsWholeLog};
 ghost use Rattle.hs_top.specs.Statement.{statement_of};
 ghost use Rattle.hs_top.specs.Spelling.{IsSpellable, spelled};
-ghost use Rattle.hs_top.specs.CommitText.{commit_text, commit_of, IsSession, IsLawful};
+ghost use Rattle.hs_log.specs.CommitText.{IsSession, commit_text};
+ghost use Rattle.hs_top.specs.CommitText.{change_line, commit_of, IsLawful};
 
 /// The program is a machine that takes turns: each turn takes an item, so that every run comes to its end; it counts the
 /// commits that it logs; and it tells of none that it didn't make. A name of a session in the items of an input has no line
@@ -64,13 +65,13 @@ pub fn spelled_statements_are_read()
 /// A text that is read as a commit is the one text of that commit behind the group before it, and the commit
 /// is one that has a text.
 pub fn commits_are_spelled()
-    ensures text { (before : Option ℕ) (text : List ℕ) (c : Commit) → commit_of before text ≡ Some c → text ≡ commit_text before c.session c.statement }
-    ensures lawful { (before : Option ℕ) (text : List ℕ) (c : Commit) → IfSome before IsSession → commit_of before text ≡ Some c → IsLawful c }
+    ensures text { (before : Option ℕ) (text : List ℕ) (c : Commit) → commit_of before text ≡ Some c → text ≡ commit_text before c.session (change_line c.statement) }
+    ensures lawful { (before : Option ℕ) (text : List ℕ) (c : Commit) → commit_of before text ≡ Some c → IsLawful c }
 {}
 
 /// The text of a commit is read as that commit.
 pub fn spelled_commits_are_read()
-    ensures { (before : Option ℕ) (c : Commit) → IsLawful c → commit_of before (commit_text before c.session c.statement) ≡ Some c }
+    ensures { (before : Option ℕ) (c : Commit) → IsLawful c → commit_of before (commit_text before c.session (change_line c.statement)) ≡ Some c }
 {}
 
 /// The texts that a run logs make again what it made: behind what its log gave, they give the database with

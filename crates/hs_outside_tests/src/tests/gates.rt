@@ -3,7 +3,7 @@ ghost use Rattle.std.specs.Prelude.{◌<◌, length};
 ghost use Rattle.hs_host.specs.Files.{IsOpen};
 
 use crate::tests::support::{one_call, opened};
-use hs_gate::{Batch, Front, GateFault, Gated, Part};
+use hs_gate::{Batch, GateFault, Gated, Part};
 use hs_host::{FileKind, Host};
 use hs_memhost::CallList;
 use std::alloc::{AllocError, Global};
@@ -221,33 +221,33 @@ fn makes_a_file(rt: HostRuntime) -> Result<(), Fail> {
     Ok(())
 }
 
-// The groups in front of the first broken one, and the first two of them.
+// A file, and the first two of its groups.
 #[tactic(auto, using(hs_gate::proofs::Parts::first_place))]
-fn two_parts<H: Host>(alloc: Global, host: &mut H) -> Result<Option<(Front, Part, Part)>, GateFault>
+fn two_parts<H: Host>(alloc: Global, host: &mut H) -> Result<Option<(Gated, Part, Part)>, GateFault>
     requires { IsOpen (H.standing host.old) }
 {
-    let Some(front) = Gated::front(alloc, host, FileKind::Log)? else {
+    let Some(gated) = Gated::read(alloc, host, FileKind::Log)? else {
         return Ok(None);
     };
-    let Some(first) = front.gated.part(alloc, host, 10)? else {
+    let Some(first) = gated.part(alloc, host, 10)? else {
         return Ok(None);
     };
-    let Some(second) = front.gated.part(alloc, host, first.next)? else {
+    let Some(second) = gated.part(alloc, host, first.next)? else {
         return Ok(None);
     };
-    Ok(Some((front, first, second)))
+    Ok(Some((gated, first, second)))
 }
 
-// A long group, a short one, and an open gate without a whole group.
-static BROKEN: [&[u8]; 3] = [
+// A long group, a short one, and a gate that isn't open with one more byte behind it.
+static TWO_GROUPS: [&[u8]; 3] = [
     b"\x01\x01\0\0\0\0\0\0\0\x02\x01\0\0\0\0\0\0\x02\0",
     &[65; 512],
-    b"\x01\0\0\0\0\0\0\0\x02ab\x01\0",
+    b"\x01\0\0\0\0\0\0\0\x02ab\x07\0",
 ];
 
-fn parts_of_broken(alloc: Global) -> Result<Option<(Front, Part, Part)>, Fail> {
+fn parts_of_two(alloc: Global) -> Result<Option<(Gated, Part, Part)>, Fail> {
     let mut log = Vec::new(alloc);
-    for part in &BROKEN {
+    for part in &TWO_GROUPS {
         log.extend_from_slice(part)?;
     }
     let mut host = opened(alloc, log, CallList::new(alloc))?;
@@ -256,8 +256,8 @@ fn parts_of_broken(alloc: Global) -> Result<Option<(Front, Part, Part)>, Fail> {
 
 #[test]
 fn reads_parts(rt: HostRuntime) -> Result<(), Fail> {
-    let (front, first, second) = parts_of_broken(rt.alloc())?.ok_or("closed")?;
-    assert!(rt; front.is_broken && front.gated.groups == 2 && front.gated.end == 542);
+    let (gated, first, second) = parts_of_two(rt.alloc())?.ok_or("closed")?;
+    assert!(rt; gated.groups == 2 && gated.end == 542);
     assert!(rt; first.next == 531 && second.next == 542);
     assert_eq!(rt; first.payload.as_slice(), [65; 512].as_slice());
     assert_eq!(rt; second.payload.as_slice(), b"ab".as_slice());

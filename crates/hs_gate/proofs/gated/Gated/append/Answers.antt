@@ -1,13 +1,13 @@
-use Rattle.std.proofs.Common.{◌≡◌, ◌<◌, ◌^◌, ℕ, List, [], ◌∷◌, ◌++◌, length, drop, sym, ◌∙◌, ap, arith, append-nil}
+use Rattle.std.proofs.Common.{◌≡◌, ◌<◌, ◌^◌, ℕ, List, [], ◌∷◌, ◌++◌, length, sym, ◌∙◌, ap, arith, append-nil}
 use Rattle.hs_host.specs.Files.{of}
 use Rattle.hs_host.specs.Used.{ChangesFile}
-use Rattle.hs_host.proofs.Used.{changes_weaker, told_on}
+use Rattle.hs_host.proofs.Used.{changes_weaker}
 use Rattle.hs_gate.specs.Crash.{IsBeforeOrAfter}
 use Rattle.hs_gate.specs.Gated.{grown}
 use Rattle.hs_gate.specs.Groups.{eight_bytes, group, spelled}
 use Rattle.hs_gate.proofs.Fronts.{append_gated, append_at_rest}
 use Rattle.hs_gate.proofs.Numbers.{length-group}
-use Rattle.hs_gate.proofs.Torn.{put_groups, append_put, spelled_first, gate_within, settled_stands}
+use Rattle.hs_gate.proofs.Torn.{put_groups, append_put, gate_within, settled_stands}
 use Rattle.hs_gate.proofs.gated.Gated.append.Goals as goal
 use Rattle.hs_gate.proofs.gated.Gated.append.Goals.{After-write_behind_gate}
 

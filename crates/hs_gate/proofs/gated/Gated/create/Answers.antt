@@ -1,7 +1,6 @@
-use Rattle.std.proofs.Common.{◌≡◌, ℕ, List, [], ◌∷◌, take, inl, inr, refl, sym, ◌∙◌, ap, Result, Ok, Err, OnErr, false}
+use Rattle.std.proofs.Common.{◌≡◌, ℕ, List, [], ◌∷◌, take, inl, inr, sym, ◌∙◌, ap, Result, Ok, Err, OnErr}
 use Rattle.hs_host.specs.Files.{Five, of, overwrite}
 use Rattle.hs_host.specs.Disk.{settled}
-use Rattle.hs_host.specs.Moments.{disk_of}
 use Rattle.hs_host.specs.Used.{Told, ChangesFile}
 use Rattle.hs_host.proofs.Changing.{disk_is}
 use Rattle.hs_host.proofs.Used.{changes_on, moves_weaker, told_on}

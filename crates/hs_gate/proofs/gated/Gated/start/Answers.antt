@@ -1,4 +1,4 @@
-use Rattle.std.proofs.Common.{◌≡◌, ◌+◌, ℕ, List, [], ◌∷◌, ◌++◌, length, take, sym, ◌∙◌, ap, subst, arith, append-nil}
+use Rattle.std.proofs.Common.{◌≡◌, ℕ, List, [], ◌∷◌, ◌++◌, take, sym, ◌∙◌, ap, subst, arith, append-nil}
 use Rattle.hs_host.specs.Files.{of}
 use Rattle.hs_host.specs.Used.{ChangesFile}
 use Rattle.hs_gate.specs.Gated.{empty}

@@ -1,4 +1,4 @@
-use Rattle.std.proofs.Common.{◌≡◌, ◌+◌, ◌-◌, ℕ, List, length, drop, ◌∙◌, ap, subst, arith}
+use Rattle.std.proofs.Common.{◌≡◌, ◌+◌, ◌-◌, ℕ, List, drop, ◌∙◌, subst, arith}
 use Rattle.hs_host.specs.Files.{Five, of}
 use Rattle.hs_host.specs.Used.{Told}
 use Rattle.hs_host.proofs.Used.{told_on, reads_on}

@@ -1,13 +1,11 @@
-use Rattle.std.proofs.Common.{◌≡◌, ◌<◌, ◌+◌, ◌-◌, ℕ, List, length, take, drop, refl, sym, ◌∙◌, ap, subst, arith}
+use Rattle.std.proofs.Common.{◌≡◌, ℕ, List, length, take, drop, refl, ◌∙◌, ap, subst, arith}
 use Rattle.std.proofs.lemmas.List.{take_rest}
 use Rattle.hs_host.specs.Files.{Five, of}
 use Rattle.hs_host.proofs.Used.{told_on, reads_on}
-use Rattle.hs_gate.specs.declared.gated.Gated.{Gated}
-use Rattle.hs_gate.specs.Groups.{groups_of, number_of}
-use Rattle.hs_gate.specs.Scan.{ending}
+use Rattle.hs_gate.specs.Groups.{number_of}
 use Rattle.hs_gate.specs.Window.{Shows}
 use Rattle.hs_gate.proofs.Pieces.{from_window}
-use Rattle.hs_gate.proofs.Fronts.{front_is}
+use Rattle.hs_gate.proofs.Fronts.{header_read}
 use Rattle.hs_gate.proofs.group_reader.GroupReader.open.Goals as goal
 
 pub returns-in_err-bring-clause-reads : goal.returns-in_err-bring-clause-reads
@@ -29,6 +27,6 @@ returns-clause-read g c = λ told.
     let header = c.from-header.result.now in
     let front : header ≡ take (length header) bytes = from_window _ bytes header _ _ 0 shows c.in_ok-bring.ensures.has.from (omega (arith, c.in_ok-bring.ensures.has.to)) c.from-header.ensures.bytes in
     let epoch : c.number-epoch.result ≡ number_of (drop 2 header) = c.number-epoch.ensures ∙ ap number_of (take_rest header 2) in
-    let made = front_is c.args.file bytes header c.number-epoch.result (ending 0 10 (groups_of bytes)) (omega (arith, total)) front
-    (omega (arith, c.from-header.ensures.count, c.in_ok-bring.ensures.has.to, c.in_ok-bring.ensures.has.from)) c.if-header-ne1.false epoch refl in
-    record { opened = made.0; epoch = ap (λ (x : Gated). x.epoch) made.1; total = total; shows = shows; so_far = refl }
+    let said = header_read bytes header c.number-epoch.result (omega (arith, total)) front
+    (omega (arith, c.from-header.ensures.count, c.in_ok-bring.ensures.has.to, c.in_ok-bring.ensures.has.from)) c.if-header-ne1.false epoch in
+    record { opened = said.0; epoch = said.1; total = total; shows = shows; so_far = refl }

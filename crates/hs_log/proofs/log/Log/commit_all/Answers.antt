@@ -1,4 +1,4 @@
-use Rattle.std.proofs.Common.{ℕ, ◌+◌, [], ◌∷◌, ap, arith}
+use Rattle.std.proofs.Common.{ap, arith}
 use Rattle.hs_host.specs.declared.file_kind.FileKind.TheVariants.{Log}
 use Rattle.hs_host.specs.Used.{ChangesFile}
 use Rattle.hs_gate.specs.declared.gated.Gated.{Gated}

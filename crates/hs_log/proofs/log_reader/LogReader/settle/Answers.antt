@@ -1,7 +1,7 @@
 use Rattle.std.proofs.Common.{◌≡◌, ℕ, List, sym, ◌∙◌, ap, subst}
 use Rattle.hs_host.specs.declared.file_kind.FileKind.TheVariants.{Log}
 use Rattle.hs_host.specs.Disk.{settled}
-use Rattle.hs_host.specs.Files.{Five, of}
+use Rattle.hs_host.specs.Files.{of}
 use Rattle.hs_host.specs.Moments.{disk_of}
 use Rattle.hs_host.specs.Used.{Told, ChangesFile}
 use Rattle.hs_gate.specs.declared.gated.Gated.{Gated}
