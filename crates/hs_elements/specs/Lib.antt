@@ -1,0 +1,4 @@
+pub mod Columns
+pub mod Defaults
+pub mod Faults
+pub mod Names
