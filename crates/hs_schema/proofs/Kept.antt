@@ -1,11 +1,9 @@
 -- The maps go on answering what the list says, when things come and go.
-use Rattle.std.proofs.Common.{◌≡◌, ℕ, ◌≤◌, Bool, true, false, cond, not, ◌&&◌, nat_eq, filter, List, [], ◌∷◌, ◌++◌, Option, Some, None, refl, sym, ap, ◌∙◌, if◌then◌else◌, arith}
+use Rattle.std.proofs.Common.{◌≡◌, ℕ, Bool, true, false, cond, not, ◌&&◌, nat_eq, filter, List, [], ◌∷◌, ◌++◌, Option, Some, None, refl, sym, ap, ◌∙◌, if◌then◌else◌}
 use Rattle.std.proofs.lemmas.List.Concat.{flat_map-append}
-use Rattle.std.proofs.lemmas.List.Elements.{All-append, All-filter}
 use Rattle.std.specs.declared.alloc.Global.{Global}
 use Rattle.std.specs.declared.string.String.{String}
 use Rattle.std.specs.declared.vec.Vec.{Vec}
-use Rattle.std.specs.List.{flat_map}
 use Rattle.std.specs.Map.{lookup}
 use Rattle.std.specs.Option.{option_map, option_map_or}
 use Rattle.std.specs.Str.{bytes_eq}
@@ -17,15 +15,13 @@ use Rattle.hs_schema.specs.declared.table.Table.{Table}
 use Rattle.hs_schema.specs.declared.thing.Part.{Part}
 use Rattle.hs_schema.specs.declared.thing.Part.TheVariants as part
 use Rattle.hs_schema.specs.declared.thing.Thing.{Thing}
-use Rattle.hs_schema.specs.Catalogue.{Text, Things, is_of, is_constraint, named, named_in, owned, owned_in, children_of, children_in, child_by, without_table, without_constraint}
+use Rattle.hs_schema.specs.Catalogue.{Text, Things, is_of, is_constraint, named, named_in, owned, owned_in, children_of, children_in, child_by, child_of, without_table, without_constraint}
 use Rattle.hs_schema.specs.Kept.{IsKept, IsGrown, children_at, is_of_table, is_child, without}
 use Rattle.hs_schema.specs.Texts.{texts}
-use Rattle.hs_schema.proofs.Filters.{flat_map-skip, flat_map-filter}
+use Rattle.hs_schema.proofs.Filters.{flat_map-filter}
+use Rattle.hs_schema.proofs.Gone.{nothing, named_without_table, owned_without_table, named_without_constraint, owned_without_constraint}
 use Rattle.hs_schema.proofs.Things.{numbered, without_own, dropped}
-
-nothing : {A : Type 0} (b : Bool) → [] ≡ (if◌then◌else◌ {A = List A} b [] [])
-nothing true = refl
-nothing false = refl
+use Rattle.hs_schema.proofs.Whole.{whole_grown, whole_without_table, whole_without_constraint}
 
 module _ (things : Things) (tables new_tables : List (ℕ × Table)) (numbers new_numbers owners new_owners : List (String Global × TableNo)) (children new_children : List (String Global × Vec Child Global)) (kept : IsKept things tables numbers owners children) where
   pub kept_grown : (table : Table) (name : Option Text) (more : Things) → IsGrown things table name more
@@ -39,7 +35,7 @@ module _ (things : Things) (tables new_tables : List (ℕ × Table)) (numbers ne
     by_name = at_numbers ∙ ap (λ es. es ++ option_map_or (λ n. (n, table.number) ∷ []) name []) kept.by_name ∙ ap (λ es. named things ++ es) (sym grown.names) ∙ sym (flat_map-append (λ (t : Thing). named_in t.table t.part) things more);
     by_constraint = at_owners ∙ ap (λ es. es ++ owned more) kept.by_constraint ∙ sym (flat_map-append (λ (t : Thing). owned_in t.table t.part) things more);
     by_parent = λ n. at_children n ∙ ap (λ ks. ks ++ children_of more n) (kept.by_parent n) ∙ sym (flat_map-append (λ (t : Thing). children_in n t.table t.part) things more);
-    in_order = All-append (λ (t : Thing). t.table.0 ≤ t.number) things more kept.in_order grown.in_order;
+    whole = whole_grown things kept.whole table name more grown;
   }
 
   pub kept_without_table : (table : TableNo)
@@ -50,10 +46,10 @@ module _ (things : Things) (tables new_tables : List (ℕ × Table)) (numbers ne
       → IsKept (without_table things table) new_tables new_numbers new_owners new_children
   kept_without_table table at_tables at_numbers at_owners at_children = record {
     by_number = λ m. at_tables m.0 ∙ ap (cond (nat_eq table.0 m.0) None) (kept.by_number m) ∙ without_own things table m;
-    by_name = at_numbers ∙ ap (filter other) kept.by_name ∙ sym (flat_map-filter (λ (t : Thing). named_in t.table t.part) stay other (λ t. names t.table t.part) things);
-    by_constraint = at_owners ∙ ap (filter other) kept.by_constraint ∙ sym (flat_map-filter (λ (t : Thing). owned_in t.table t.part) stay other (λ t. owners_of t.table t.part) things);
+    by_name = at_numbers ∙ ap (filter other) kept.by_name ∙ sym (named_without_table table things);
+    by_constraint = at_owners ∙ ap (filter other) kept.by_constraint ∙ sym (owned_without_table table things);
     by_parent = λ n. at_children n ∙ ap (filter (λ k. not (is_of_table table k))) (kept.by_parent n) ∙ sym (flat_map-filter (λ (t : Thing). children_in n t.table t.part) stay (λ k. not (is_of_table table k)) (λ t. keys n t.table t.part) things);
-    in_order = All-filter stay (λ (t : Thing). t.table.0 ≤ t.number) things kept.in_order;
+    whole = whole_without_table things kept.whole table;
   }
     where
       stay : Thing → Bool
@@ -62,22 +58,12 @@ module _ (things : Things) (tables new_tables : List (ℕ × Table)) (numbers ne
       other : Text × TableNo → Bool
       other e = not (nat_eq table.0 e.1.0)
 
-      names : (its : TableNo) (p : Part) → filter other (named_in its p) ≡ (if not (nat_eq table.0 its.0) then named_in its p else [])
-      names its (part.Table name storage columns) = refl
-      names its (part.Column column) = nothing (not (nat_eq table.0 its.0))
-      names its (part.Constraint constraint) = nothing (not (nat_eq table.0 its.0))
-
-      owners_of : (its : TableNo) (p : Part) → filter other (owned_in its p) ≡ (if not (nat_eq table.0 its.0) then owned_in its p else [])
-      owners_of its (part.Table name storage columns) = nothing (not (nat_eq table.0 its.0))
-      owners_of its (part.Column column) = nothing (not (nat_eq table.0 its.0))
-      owners_of its (part.Constraint constraint) = refl
-
       key : (b : Bool) (child : Child) → filter (λ k. not (is_of_table table k)) (if b then child ∷ [] else []) ≡ (if not (nat_eq table.0 child.table.0) then (if b then child ∷ [] else []) else [])
       key true child = refl
       key false child = nothing (not (nat_eq table.0 child.table.0))
 
       by_rule : (n : Text) (its : TableNo) (own : Text) (r : Rule) → filter (λ k. not (is_of_table table k)) (child_by its own r n) ≡ (if not (nat_eq table.0 its.0) then child_by its own r n else [])
-      by_rule n its own (rule.ForeignKey k) = key (bytes_eq k.parent n) (record { table = its; constraint = own })
+      by_rule n its own (rule.ForeignKey k) = key (bytes_eq k.parent n) (child_of its own k)
       by_rule n its own (rule.NotNull column) = nothing (not (nat_eq table.0 its.0))
       by_rule n its own (rule.PrimaryKey columns) = nothing (not (nat_eq table.0 its.0))
       by_rule n its own (rule.Unique columns) = nothing (not (nat_eq table.0 its.0))
@@ -96,10 +82,10 @@ module _ (things : Things) (tables new_tables : List (ℕ × Table)) (numbers ne
       → IsKept (without_constraint things name table) new_tables numbers new_owners new_children
   kept_without_constraint table name at_tables at_owners at_children = record {
     by_number = λ m. at_tables m.0 ∙ ap (λ o. if nat_eq table.0 m.0 then option_map (without name) o else o) (kept.by_number m) ∙ dropped things table m name;
-    by_name = kept.by_name ∙ sym (flat_map-skip (λ (t : Thing). named_in t.table t.part) stay (λ t. names (is_of table t) t.table t.part) things);
-    by_constraint = at_owners ∙ ap (filter other) kept.by_constraint ∙ sym (flat_map-filter (λ (t : Thing). owned_in t.table t.part) stay other (λ t. owners_of t.table t.part) things);
+    by_name = kept.by_name ∙ sym (named_without_constraint table name things);
+    by_constraint = at_owners ∙ ap (filter other) kept.by_constraint ∙ sym (owned_without_constraint table name things);
     by_parent = λ n. at_children n ∙ ap (filter (λ k. not (is_child table name k))) (kept.by_parent n) ∙ sym (flat_map-filter (λ (t : Thing). children_in n t.table t.part) stay (λ k. not (is_child table name k)) (λ t. keys n t.table t.part) things);
-    in_order = All-filter stay (λ (t : Thing). t.table.0 ≤ t.number) things kept.in_order;
+    whole = whole_without_constraint things kept.whole table name;
   }
     where
       stay : Thing → Bool
@@ -108,23 +94,12 @@ module _ (things : Things) (tables new_tables : List (ℕ × Table)) (numbers ne
       other : Text × TableNo → Bool
       other e = not (nat_eq table.0 e.1.0 && bytes_eq name e.0)
 
-      names : (b : Bool) (its : TableNo) (p : Part) → not (b && is_constraint name p) ≡ false → named_in its p ≡ []
-      names true its (part.Table own storage columns) h = cc
-      names false its (part.Table own storage columns) h = cc
-      names b its (part.Column column) h = refl
-      names b its (part.Constraint constraint) h = refl
-
-      owners_of : (its : TableNo) (p : Part) → filter other (owned_in its p) ≡ (if not (nat_eq table.0 its.0 && is_constraint name p) then owned_in its p else [])
-      owners_of its (part.Table own storage columns) = nothing (not (nat_eq table.0 its.0 && false))
-      owners_of its (part.Column column) = nothing (not (nat_eq table.0 its.0 && false))
-      owners_of its (part.Constraint constraint) = refl
-
       key : (b : Bool) (child : Child) → filter (λ k. not (is_child table name k)) (if b then child ∷ [] else []) ≡ (if not (is_child table name child) then (if b then child ∷ [] else []) else [])
       key true child = refl
       key false child = nothing (not (is_child table name child))
 
       by_rule : (n : Text) (its : TableNo) (own : Text) (r : Rule) → filter (λ k. not (is_child table name k)) (child_by its own r n) ≡ (if not (nat_eq table.0 its.0 && bytes_eq name own) then child_by its own r n else [])
-      by_rule n its own (rule.ForeignKey k) = key (bytes_eq k.parent n) (record { table = its; constraint = own })
+      by_rule n its own (rule.ForeignKey k) = key (bytes_eq k.parent n) (child_of its own k)
       by_rule n its own (rule.NotNull column) = nothing (not (nat_eq table.0 its.0 && bytes_eq name own))
       by_rule n its own (rule.PrimaryKey columns) = nothing (not (nat_eq table.0 its.0 && bytes_eq name own))
       by_rule n its own (rule.Unique columns) = nothing (not (nat_eq table.0 its.0 && bytes_eq name own))

@@ -1,7 +1,13 @@
+pub mod After
+pub mod Copied
+pub mod Distinct
 pub mod Filters
+pub mod Gone
 pub mod Kept
-pub mod Made
+pub mod Last
 pub mod Lists
+pub mod Made
 pub mod Removed
 pub mod Texts
 pub mod Things
+pub mod Whole

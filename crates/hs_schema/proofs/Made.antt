@@ -2,7 +2,7 @@
 use Rattle.std.proofs.Common.{◌≡◌, ℕ, ◌<◌, ◌≤◌, Bool, true, false, cond, nat_eq, nat_le, ◌+◌, filter, List, [], ◌∷◌, ◌++◌, map, Option, Some, None, refl, sym, ap, ◌∙◌, subst, rules, arith}
 use Rattle.std.proofs.lemmas.List.{append-nil}
 use Rattle.std.proofs.lemmas.List.Concat.{flat_map-append}
-use Rattle.std.proofs.lemmas.List.Elements.{All-cons, All-head, All-tail, All-nil, All-append, filter-append}
+use Rattle.std.proofs.lemmas.List.Elements.{All-cons, All-head, All-tail, All-nil, All-weaker, filter-append}
 use Rattle.std.proofs.lemmas.List.Folds.{find-append}
 use Rattle.std.proofs.lemmas.Bool.Decides.{nat_tests}
 use Rattle.std.proofs.lemmas.Map.Keys.{IsDistinct-head, IsDistinct-tail}
@@ -18,8 +18,10 @@ use Rattle.hs_schema.specs.declared.table.Table.{Table}
 use Rattle.hs_schema.specs.declared.thing.Part.{Part}
 use Rattle.hs_schema.specs.declared.thing.Part.TheVariants as part
 use Rattle.hs_schema.specs.declared.thing.Thing.{Thing}
-use Rattle.hs_schema.specs.Catalogue.{Text, Things, is_of, is_table, own, columns_in, constraints_in, table_with, table_in, table_numbered, named, named_in, owned, owned_in, owner_of, number_of, made, constraints_made, column_made, parts_made, table_made, AreNew}
-use Rattle.hs_schema.specs.Kept.{IsFree, AreFree, IsGrown, grown}
+use Rattle.hs_schema.specs.Catalogue.{Text, Things, is_of, is_table, own, columns_in, constraints_in, table_with, table_in, table_numbered, named, owned, owner_of, number_of, made, constraints_made, parts_made, table_made, AreNew}
+use Rattle.hs_schema.specs.Kept.{AreFree, IsGrown, grown}
+use Rattle.hs_schema.specs.Whole.{Ascends}
+use Rattle.hs_schema.proofs.Distinct.{unused}
 use Rattle.hs_schema.proofs.Lists.{same_text, text_itself}
 
 -- ---- constraints
@@ -47,6 +49,14 @@ module _ (number : ℕ) (table : TableNo) where
   pub in_order : table.0 ≤ number → (cs : List Constraint) → All (λ (t : Thing). t.table.0 ≤ t.number) (constraints_made number table cs)
   in_order le [] = All-nil (λ (t : Thing). t.table.0 ≤ t.number)
   in_order le (c ∷ cs) = All-cons (λ (t : Thing). t.table.0 ≤ t.number) (made number table (part.Constraint c)) (constraints_made number table cs) le (in_order le cs)
+
+  pub not_below : (least : ℕ) → least ≤ number → (cs : List Constraint) → All (λ (t : Thing). least ≤ t.number) (constraints_made number table cs)
+  not_below least le [] = All-nil (λ (t : Thing). least ≤ t.number)
+  not_below least le (c ∷ cs) = All-cons (λ (t : Thing). least ≤ t.number) (made number table (part.Constraint c)) (constraints_made number table cs) le (not_below least le cs)
+
+  pub ascends_constraints : (cs : List Constraint) → Ascends (constraints_made number table cs)
+  ascends_constraints [] = tt
+  ascends_constraints (c ∷ cs) = (not_below number (omega arith) cs, ascends_constraints cs)
 
 -- ---- names that are new
 
@@ -155,6 +165,9 @@ module _ (things : Things) (number : ℕ) (storage : Storage) (name : Text) (col
     new = λ n e. let same : name ≡ n = cc in ap (number_of things) (sym same) ∙ new;
     free = (tt, subst (λ es. AreFree es rest) (sym (append-nil (owned things))) (free_constraints number table constraints (owned things) free.0 free.1));
     in_order = All-cons (λ (t : Thing). t.table.0 ≤ t.number) head rest (omega arith) (in_order number table (omega arith) constraints);
+    unused = λ n e. unused number things below order;
+    ascending = (not_below number table number (omega arith) constraints, ascends_constraints number table constraints);
+    behind = All-weaker (λ (t : Thing). t.number < number) (λ (t : Thing). All (λ (u : Thing). t.number ≤ u.number) (head ∷ rest)) (λ t lt. All-cons (λ (u : Thing). t.number ≤ u.number) head rest (omega arith) (not_below number table t.number (omega arith) constraints)) things below;
   }
     where
       table : TableNo
@@ -190,6 +203,9 @@ module _ (things : Things) (table : TableNo) (found : Table) (number : ℕ) (col
     new = λ n e. cc;
     free = free_all column;
     in_order = ordered column;
+    unused = λ n e. cc;
+    ascending = ascends column;
+    behind = All-weaker (λ (t : Thing). t.number ≤ number) (λ (t : Thing). All (λ (u : Thing). t.number ≤ u.number) (parts_made number column constraints table)) (λ t le. above t.number le column) things below;
   }
     where
       same : found.number ≡ table
@@ -234,6 +250,14 @@ module _ (things : Things) (table : TableNo) (found : Table) (number : ℕ) (col
       ordered : (column : Option Column) → All (λ (t : Thing). t.table.0 ≤ t.number) (parts_made number column constraints table)
       ordered None = in_order number table within constraints
       ordered (Some c) = All-cons (λ (t : Thing). t.table.0 ≤ t.number) (made number table (part.Column c)) (constraints_made number table constraints) within (in_order number table within constraints)
+
+      ascends : (column : Option Column) → Ascends (parts_made number column constraints table)
+      ascends None = ascends_constraints number table constraints
+      ascends (Some c) = (not_below number table number (omega arith) constraints, ascends_constraints number table constraints)
+
+      above : (least : ℕ) → least ≤ number → (column : Option Column) → All (λ (u : Thing). least ≤ u.number) (parts_made number column constraints table)
+      above least le None = not_below number table least le constraints
+      above least le (Some c) = All-cons (λ (u : Thing). least ≤ u.number) (made number table (part.Column c)) (constraints_made number table constraints) le (not_below number table least le constraints)
 
 pub new_one : (things : Things) (c : Constraint) → owner_of things c.name ≡ None → AreNew things (c ∷ [])
 unfolding IsDistinct

@@ -1,5 +1,5 @@
 -- A list from which items are taken one by one, from its end on.
-use Rattle.std.proofs.Common.{◌≡◌, ℕ, zero, suc, ◌<◌, Bool, true, false, cond, filter, List, [], ◌∷◌, ◌++◌, Option, None, Some, take, drop, length, slice_get, refl, sym, ap, ◌∙◌, arith}
+use Rattle.std.proofs.Common.{◌≡◌, ℕ, zero, suc, ◌<◌, Bool, true, false, cond, filter, List, [], ◌∷◌, ◌++◌, None, Some, take, drop, length, slice_get, sym, ap, ◌∙◌, arith}
 use Rattle.std.specs.List.{remove}
 
 module _ {A : Type 0} (keep : A → Bool) where

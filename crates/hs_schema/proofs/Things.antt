@@ -1,9 +1,7 @@
 -- How the look-ups of a list of things follow it when things come and go.
-use Rattle.std.proofs.Common.{◌≡◌, ℕ, Bool, true, false, cond, not, ◌&&◌, nat_eq, filter, List, [], ◌∷◌, ◌++◌, Option, Some, None, is_some, refl, sym, ap, ◌∙◌, subst, if◌then◌else◌, rules, arith}
+use Rattle.std.proofs.Common.{◌≡◌, ℕ, Bool, true, false, cond, not, ◌&&◌, nat_eq, filter, List, [], ◌∷◌, ◌++◌, Option, Some, None, is_some, refl, sym, ap, ◌∙◌, if◌then◌else◌, rules, arith}
 use Rattle.std.proofs.lemmas.List.{append-nil}
-use Rattle.std.proofs.lemmas.List.Concat.{flat_map-append}
 use Rattle.std.proofs.lemmas.List.Elements.{filter-append}
-use Rattle.std.proofs.lemmas.List.Folds.{find-append}
 use Rattle.std.specs.List.{flat_map, find}
 use Rattle.std.specs.Map.{lookup}
 use Rattle.std.specs.Option.{option_map, option_map_or}
@@ -16,7 +14,7 @@ use Rattle.hs_schema.specs.declared.thing.Part.{Part}
 use Rattle.hs_schema.specs.declared.thing.Part.TheVariants as part
 use Rattle.hs_schema.specs.declared.thing.Thing.{Thing}
 use Rattle.hs_schema.specs.Catalogue.{Text, Things, is_of, is_table, own, columns_in, constraints_in, table_with, table_in, table_numbered, is_constraint, named, named_in, number_of}
-use Rattle.hs_schema.specs.Kept.{IsGrown, without}
+use Rattle.hs_schema.specs.Kept.{without}
 use Rattle.hs_schema.proofs.Filters.{filter-within, filter-apart, filter-swap, find-within, flat_map-skip, flat_map-filter}
 
 -- ---- numbers of tables

@@ -5,7 +5,6 @@ use Rattle.std.specs.Map.{lookup}
 use Rattle.std.specs.Option.{option_map, option_map_or}
 use Rattle.std.specs.Str.{bytes_eq}
 use Rattle.hs_ast.specs.declared.definition.Storage.{Storage}
-use Rattle.hs_base.specs.declared.numbers.ConstraintNo.{ConstraintNo}
 use Rattle.hs_base.specs.declared.numbers.TableNo.{TableNo}
 use Rattle.hs_plan.specs.declared.definition.Column.{Column}
 use Rattle.hs_plan.specs.declared.definition.Constraint.{Constraint}
@@ -114,8 +113,12 @@ place_of things name = option_map_or (λ table. option_map_or (place_in name) (t
 
 -- ---- foreign keys
 
+-- a table's foreign key, as its parent sees it
+abbrev pub child_of : TableNo → Text → ForeignKey → Child
+child_of table name key = record { table = table; constraint = name; on_delete = key.on_delete; on_update = key.on_update }
+
 abbrev pub child_by : TableNo → Text → Rule → Text → List Child
-child_by table name (rule.ForeignKey key) parent = if bytes_eq key.parent parent then record { table = table; constraint = name } ∷ [] else []
+child_by table name (rule.ForeignKey key) parent = if bytes_eq key.parent parent then child_of table name key ∷ [] else []
 child_by table name (rule.NotNull column) parent = []
 child_by table name (rule.PrimaryKey columns) parent = []
 child_by table name (rule.Unique columns) parent = []

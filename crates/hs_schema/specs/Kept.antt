@@ -1,9 +1,9 @@
 -- What a catalogue keeps beside its list, for look-ups.
-use Rattle.std.specs.Prelude.{◌≡◌, ℕ, ◌≤◌, Bool, true, not, nat_eq, ◌&&◌, List, [], ◌∷◌, ◌++◌, filter, Option, None, Some, string_bytes}
+use Rattle.std.specs.Prelude.{◌≡◌, ℕ, ◌≤◌, Bool, false, not, nat_eq, ◌&&◌, List, [], ◌∷◌, ◌++◌, filter, Option, None, Some, string_bytes}
 use Rattle.std.specs.declared.alloc.Global.{Global}
 use Rattle.std.specs.declared.string.String.{String}
 use Rattle.std.specs.declared.vec.Vec.{Vec}
-use Rattle.std.specs.List.{All}
+use Rattle.std.specs.List.{All, list_any}
 use Rattle.std.specs.Map.{lookup}
 use Rattle.std.specs.Option.{option_map_or}
 use Rattle.std.specs.Str.{bytes_eq}
@@ -14,9 +14,9 @@ use Rattle.hs_schema.specs.declared.table.Child.{Child}
 use Rattle.hs_schema.specs.declared.table.Table.{Table}
 use Rattle.hs_schema.specs.declared.thing.Part.{Part}
 use Rattle.hs_schema.specs.declared.thing.Part.TheVariants as part
-use Rattle.hs_schema.specs.declared.thing.Thing.{Thing}
 use Rattle.hs_schema.specs.Catalogue.{Text, Things, is_of, table_numbered, named, number_of, owned, owned_in, children_of}
 use Rattle.hs_schema.specs.Texts.{texts}
+use Rattle.hs_schema.specs.Whole.{Ascends, IsWhole, numbers}
 
 -- the foreign keys that are kept for the parent of this name
 abbrev pub children_at : List (String Global × Vec Child Global) → Text → List Child
@@ -42,7 +42,7 @@ pub record IsKept (things : Things) (tables : List (ℕ × Table)) (numbers owne
   pub by_name : texts numbers ≡ named things
   pub by_constraint : texts owners ≡ owned things
   pub by_parent : (name : Text) → children_at children name ≡ children_of things name
-  pub in_order : All (λ t. t.table.0 ≤ t.number) things
+  pub whole : IsWhole things
 
 -- no entry has the name of the constraint or index
 abbrev pub IsFree : List (Text × TableNo) → Part → Type 0
@@ -63,3 +63,6 @@ pub record IsGrown (things : Things) (table : Table) (name : Option Text) (more 
   pub new : (n : Text) → name ≡ Some n → number_of things n ≡ None
   pub free : AreFree (owned things) more
   pub in_order : All (λ t. t.table.0 ≤ t.number) more
+  pub unused : (n : Text) → name ≡ Some n → list_any (nat_eq table.number.0) (numbers (named things)) ≡ false
+  pub ascending : Ascends more
+  pub behind : All (λ t. All (λ u. t.number ≤ u.number) more) things

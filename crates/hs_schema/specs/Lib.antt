@@ -1,3 +1,4 @@
 pub mod Catalogue
 pub mod Kept
 pub mod Texts
+pub mod Whole

@@ -1,14 +1,16 @@
 // The catalogue.
-ghost use Rattle.std.specs.Prelude.{◌≡◌, [], length};
+ghost use Rattle.std.specs.Prelude.{◌≡◌, [], length, IfOk};
 ghost use Rattle.std.specs.Option.{option_copied};
 ghost use Rattle.hs_schema.specs.Catalogue as spec;
 
+mod bound;
 mod definitions;
 
 use crate::children::Children;
+use crate::copies::{copy_names, copy_tables, copy_things};
 use crate::table::{Child, Place, Table};
 use crate::thing::Thing;
-use hs_base::TableNo;
+use hs_base::{NoMemory, TableNo};
 use indexmap::IndexMap;
 use std::alloc::Global;
 use std::marker::Model;
@@ -120,6 +122,20 @@ impl Catalog {
         ensures { result.now ≡ spec.children_of self.now parent.now }
     {
         self.children.of(parent)
+    }
+
+    /// A copy, which equals its source. An `Err` is want of memory, and what was copied by then is given back.
+    pub fn copy(&self) -> Result<Catalog, NoMemory>
+        ensures { IfOk result (λ copied. copied ≡ self.now) }
+    {
+        let alloc = self.alloc();
+        Ok(Catalog {
+            things: copy_things(&self.things, alloc)?,
+            tables: copy_tables(&self.tables, alloc)?,
+            numbers: copy_names(&self.numbers)?,
+            owners: copy_names(&self.owners)?,
+            children: self.children.copy()?,
+        })
     }
 
     // The number of the table of a name.

@@ -1,5 +1,5 @@
 // The foreign keys by the tables that they reference.
-ghost use Rattle.std.specs.Prelude.{◌≡◌, true, List, [], ◌∷◌, ◌++◌, if◌then◌else◌, OnOk, OnErr, filter, not};
+ghost use Rattle.std.specs.Prelude.{◌≡◌, true, List, [], ◌∷◌, ◌++◌, if◌then◌else◌, IfOk, OnOk, OnErr, filter, not};
 ghost use Rattle.std.specs.Str.{bytes_eq};
 ghost use Rattle.hs_schema.specs.declared.table.Child.{Child};
 ghost use Rattle.hs_schema.specs.Catalogue.{Text, Things, children_in, children_of};
@@ -36,6 +36,15 @@ impl Children {
         }
     }
 
+    /// A copy, which has the same lists.
+    pub(crate) fn copy(&self) -> Result<Children, NoMemory>
+        ensures { IfOk result (λ copied. (name : Text) → children_at copied.lists.entries name ≡ children_at self.now.lists.entries name) }
+    {
+        Ok(Children {
+            lists: self.lists.clone()?,
+        })
+    }
+
     // Puts one behind those of this parent.
     fn add(&mut self, parent: &str, child: Child) -> Result<(), NoMemory>
         ensures ok { OnOk result ((name : Text) → children_at self.new.lists.entries name ≡ children_at self.old.lists.entries name ++ (if bytes_eq parent.now name then child ∷ [] else [])) }
@@ -67,6 +76,8 @@ impl Children {
         let child = Child {
             table: thing.table,
             constraint: constraint.name.copy()?,
+            on_delete: key.on_delete,
+            on_update: key.on_update,
         };
         self.add(key.parent.as_str(), child)
     }

@@ -4,6 +4,8 @@
 
 mod catalog;
 mod children;
+mod copies;
+pub mod laws;
 mod making;
 mod removal;
 mod table;

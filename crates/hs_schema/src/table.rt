@@ -8,10 +8,10 @@ ghost use Rattle.hs_schema.specs.Kept.{is_child, grown, without};
 
 use crate::making::{copy_columns, copy_constraints};
 use hs_base::{ConstraintNo, NoMemory, TableNo};
-use hs_plan::{Column, Constraint, Storage};
+use hs_plan::{Column, Constraint, ReferentialAction, Storage};
 use hs_values::Name;
 use sqlite_items::Items;
-use std::alloc::Global;
+use std::alloc::{AllocError, Global};
 
 /// A table as it stands.
 #[derive(Drop)]
@@ -34,11 +34,13 @@ pub struct Place {
     pub constraint: ConstraintNo,
 }
 
-/// A foreign key that references a table: the table that has it, and its name.
+/// A foreign key that references a table: the table that has it, its name, and its actions.
 #[derive(Drop)]
 pub struct Child {
     pub table: TableNo,
     pub constraint: Name,
+    pub on_delete: ReferentialAction,
+    pub on_update: ReferentialAction,
 }
 
 impl Table {
@@ -139,5 +141,20 @@ impl Child {
         ensures { result ≡ is_child table name.now self.now }
     {
         table == self.table && name == self.constraint.as_str()
+    }
+}
+
+impl Clone for Child {
+    ghost use Rattle.std.specs.Prelude.{◌≡◌};
+
+    ghost is_clone = { λ child copied. copied ≡ child };
+
+    fn clone(&self) -> Result<Child, AllocError> {
+        Ok(Child {
+            table: self.table,
+            constraint: self.constraint.copy()?,
+            on_delete: self.on_delete,
+            on_update: self.on_update,
+        })
     }
 }

@@ -1,11 +1,13 @@
 // The things of a catalogue.
-ghost use Rattle.std.specs.Prelude.{◌≡◌};
+ghost use Rattle.std.specs.Prelude.{◌≡◌, IfOk};
 ghost use Rattle.hs_schema.specs.Catalogue.{is_constraint};
 
-use hs_base::TableNo;
+use crate::making::copy_columns;
+use hs_base::{NoMemory, TableNo};
 use hs_plan::{Column, Constraint, Storage};
 use hs_values::Name;
 use sqlite_items::Items;
+use std::alloc::Global;
 
 /// What a thing is.
 #[derive(Drop)]
@@ -41,5 +43,37 @@ impl Part {
             Part::Table { .. } | Part::Column(_) => false,
             Part::Constraint(constraint) => name == constraint.name.as_str(),
         }
+    }
+
+    // A copy, which equals its source.
+    fn copy(&self, alloc: Global) -> Result<Part, NoMemory>
+        ensures { IfOk result (λ copied. copied ≡ self.now) }
+    {
+        match self {
+            Part::Table {
+                name,
+                storage,
+                columns,
+            } => Ok(Part::Table {
+                name: name.copy()?,
+                storage: *storage,
+                columns: copy_columns(columns.as_slice(), alloc)?,
+            }),
+            Part::Column(column) => Ok(Part::Column(column.copy()?)),
+            Part::Constraint(constraint) => Ok(Part::Constraint(constraint.copy(alloc)?)),
+        }
+    }
+}
+
+impl Thing {
+    /// A copy, which equals its source.
+    pub(crate) fn copy(&self, alloc: Global) -> Result<Thing, NoMemory>
+        ensures { IfOk result (λ copied. copied ≡ self.now) }
+    {
+        Ok(Thing {
+            number: self.number,
+            table: self.table,
+            part: self.part.copy(alloc)?,
+        })
     }
 }

@@ -1,4 +1,4 @@
-use Rattle.std.proofs.Common.{◌≡◌, ℕ, ◌-◌, ◌+◌, ◌++◌, ◌∷◌, [], length, length-append, take, ap, ◌∙◌, arith}
+use Rattle.std.proofs.Common.{◌≡◌, ◌-◌, ◌∷◌, [], length, length-append, take, ap, ◌∙◌, arith}
 use Rattle.hs_schema.proofs.Lists.{front_taken}
 use Rattle.hs_schema.proofs.children.take_last.Goals as goal
 

@@ -1,4 +1,4 @@
-use Rattle.std.proofs.Common.{◌≡◌, ap, sym, subst, None, Some, ◌∙◌, ◌++◌, ◌∷◌, [], string_bytes, List, ℕ}
+use Rattle.std.proofs.Common.{◌≡◌, ap, sym, subst, None, ◌∙◌, ◌++◌, ◌∷◌, [], List, ℕ}
 use Rattle.std.specs.Map.{lookup}
 use Rattle.std.specs.Str.{bytes_eq}
 use Rattle.hs_schema.specs.Catalogue.{owned_in}

@@ -1,4 +1,4 @@
-use Rattle.std.proofs.Common.{◌≡◌, take, sym, ap, ◌∙◌, string_bytes, String, Global, List, ℕ}
+use Rattle.std.proofs.Common.{take, sym, ap, ◌∙◌, string_bytes, String, Global}
 use Rattle.std.specs.List.{take-map}
 use Rattle.hs_base.specs.declared.numbers.TableNo.{TableNo}
 use Rattle.hs_schema.specs.Texts.{texts}

@@ -1,15 +1,15 @@
-use Rattle.std.proofs.Common.{◌≡◌, ℕ, nat_eq, Some, is_ok, if◌then◌else◌, ◌++◌, ◌≤◌, length, cond, List, [], ◌∷◌, Option, take, subst, sym, ap, ◌∙◌, string_bytes, String, Global}
+use Rattle.std.proofs.Common.{ℕ, nat_eq, Some, is_ok, if◌then◌else◌, ◌++◌, cond, List, [], ◌∷◌, Option, take, subst, sym, ap, ◌∙◌, string_bytes, String, Global}
 use Rattle.std.proofs.lemmas.List.{length-map}
 use Rattle.std.proofs.lemmas.Result.{IfOk-at_ok}
 use Rattle.std.specs.HashMap.{Updates}
-use Rattle.std.specs.List.{take-map, All}
+use Rattle.std.specs.List.{take-map}
 use Rattle.std.specs.Map.{lookup}
 use Rattle.std.specs.Option.{option_map, option_map_or}
 use Rattle.hs_base.specs.declared.numbers.TableNo.{TableNo}
-use Rattle.hs_schema.specs.declared.thing.Thing.{Thing}
 use Rattle.hs_schema.specs.Catalogue as spec
 use Rattle.hs_schema.specs.Kept.{IsKept, IsGrown, children_at}
 use Rattle.hs_schema.specs.Texts.{texts}
+use Rattle.hs_schema.specs.Whole.{IsWhole}
 use Rattle.hs_schema.proofs.Kept.{kept_grown}
 use Rattle.hs_schema.proofs.Lists.{front_taken}
 use Rattle.hs_schema.proofs.Texts.{name_put}
@@ -28,7 +28,7 @@ invariant_of-self-in-Err c =
       by_constraint = ap texts c.truncate.ensures.entries ∙ sym (take-map (λ (e : String Global × TableNo). (string_bytes e.0, e.1)) c.len-kept.result c.own_all.new.owners.entries)
           ∙ ap (take c.len-kept.result) c.in_ok-own_all.ensures.ok ∙ ap (λ n. take n (texts old ++ spec.owned c.deref.result.now)) kept ∙ front_taken (texts old) (spec.owned c.deref.result.now) ∙ inv.by_constraint ∙ ap spec.owned (sym same);
       by_parent = λ n. c.in-Err.ensures.err n ∙ inv.by_parent n ∙ ap (λ t. spec.children_of t n) (sym same);
-      in_order = subst (All (λ (t : Thing). t.table.0 ≤ t.number)) (sym same) inv.in_order;
+      whole = subst IsWhole (sym same) inv.whole;
     }
 
 pub invariant_of-self-2 : goal.invariant_of-self-2

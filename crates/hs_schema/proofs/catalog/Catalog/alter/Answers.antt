@@ -1,4 +1,4 @@
-use Rattle.std.proofs.Common.{◌≡◌, Some, None, Option, ◌++◌, Bor, is_some, subst, sym, ap, ◌∙◌, ◌<◌, ◌≤◌}
+use Rattle.std.proofs.Common.{None, Option, ◌++◌, Bor, is_some, subst, sym, ap, ◌∙◌, ◌≤◌}
 use Rattle.std.specs.List.{All}
 use Rattle.std.specs.Option.{option_map}
 use Rattle.hs_plan.specs.declared.definition.Column.{Column}
@@ -18,7 +18,7 @@ returns-in_default-table_numbered-clause-ok c =
 pub add-requires : goal.add-requires
 add-requires c =
     let things = c.args.self.now in
-    let order = subst (All (λ (t : Thing). t.table.0 ≤ t.number)) c.self.view_is c.self.invariant.in_order in
+    let order = subst (All (λ (t : Thing). t.table.0 ≤ t.number)) c.self.view_is c.self.invariant.whole.after_table in
     let column : Option Column = option_map (λ (k : Bor Column). k.now) c.args.column in
     let constraints = c.args.constraints.now in
     let number = c.args.number in

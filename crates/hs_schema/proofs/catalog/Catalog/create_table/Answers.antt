@@ -1,10 +1,8 @@
-use Rattle.std.proofs.Common.{◌≡◌, Some, Option, List, ℕ, [], ◌∷◌, ◌++◌, subst, sym, ap, ◌∙◌, ◌<◌, ◌≤◌, string_bytes}
+use Rattle.std.proofs.Common.{◌≡◌, Some, List, ℕ, [], ◌∷◌, ◌++◌, subst, sym, ap, ◌∙◌, ◌≤◌}
 use Rattle.std.specs.List.{All}
 use Rattle.hs_ast.specs.declared.definition.Storage.{Storage}
-use Rattle.hs_base.specs.declared.numbers.TableNo.{TableNo}
 use Rattle.hs_plan.specs.declared.definition.Column.{Column}
 use Rattle.hs_plan.specs.declared.definition.Constraint.{Constraint}
-use Rattle.hs_schema.specs.declared.table.Table.{Table}
 use Rattle.hs_schema.specs.declared.thing.Part.TheVariants as part
 use Rattle.hs_schema.specs.declared.thing.Thing.{Thing}
 use Rattle.hs_schema.specs.Catalogue as spec
@@ -29,7 +27,7 @@ add-requires c =
     let things = c.args.self.now in
     let name = c.args.name.now in
     let number = c.args.number in
-    let order = subst (All (λ (t : Thing). t.table.0 ≤ t.number)) c.self.view_is c.self.invariant.in_order in
+    let order = subst (All (λ (t : Thing). t.table.0 ≤ t.number)) c.self.view_is c.self.invariant.whole.after_table in
     let grown = grown_table things number c.args.storage name c.args.columns.now c.args.constraints.now c.requires.new c.requires.free c.requires.next order in
     let rest = spec.constraints_made number (record { 0 = number }) c.args.constraints.now in
     let more = c.in_ok-constraint_things.ensures ∙ ap (λ ts. ts ++ rest) (c.in_ok-push.ensures.items ∙ ap (λ ts. ts ++ spec.made number (record { 0 = number }) (part.Table c.in_ok-copy-2.field-0 c.args.storage c.in_ok-copy_columns-2.field-0) ∷ []) c.new-more.ensures.items)

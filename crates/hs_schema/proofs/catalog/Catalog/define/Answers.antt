@@ -1,5 +1,4 @@
-use Rattle.std.proofs.Common.{◌≡◌, subst, sym, ap, ◌∙◌, None}
-use Rattle.hs_plan.specs.declared.definition.Constraint.{Constraint}
+use Rattle.std.proofs.Common.{subst, sym, ap, ◌∙◌}
 use Rattle.hs_schema.specs.Catalogue as spec
 use Rattle.hs_schema.proofs.Made.{new_one}
 use Rattle.hs_schema.proofs.catalog.Catalog.define.Goals as goal

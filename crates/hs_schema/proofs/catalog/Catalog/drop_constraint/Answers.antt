@@ -1,4 +1,4 @@
-use Rattle.std.proofs.Common.{◌≡◌, nat_eq, subst, sym, ap, ◌∙◌}
+use Rattle.std.proofs.Common.{subst, sym, ap, ◌∙◌}
 use Rattle.hs_schema.specs.Catalogue as spec
 use Rattle.hs_schema.specs.Kept.{IsKept}
 use Rattle.hs_schema.proofs.Kept.{kept_without_constraint}

@@ -1,4 +1,4 @@
-use Rattle.std.proofs.Common.{◌≡◌, ap, ◌∙◌}
+use Rattle.std.proofs.Common.{ap, ◌∙◌}
 use Rattle.hs_schema.specs.Catalogue as spec
 use Rattle.hs_schema.proofs.Texts.{found}
 use Rattle.hs_schema.proofs.catalog.Catalog.owner_of.Goals as goal

@@ -1,4 +1,4 @@
-use Rattle.std.proofs.Common.{rules, ◌∙◌, ap}
+use Rattle.std.proofs.Common.{◌∙◌}
 use Rattle.hs_schema.specs.Kept.{children_at}
 use Rattle.hs_schema.proofs.children.Children.+add_all.Goals as goal
 
