@@ -1,4 +1,0 @@
-// Operands of right and of wrong kinds, and what literal texts are read as, by tables.
-mod faults;
-mod kinds;
-mod trees;
