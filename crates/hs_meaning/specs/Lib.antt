@@ -1,0 +1,9 @@
+pub mod Expressions
+pub mod From
+pub mod Layers
+pub mod Parts
+pub mod Queries
+pub mod Selects
+pub mod Statements
+pub mod Surroundings
+pub mod Trees
