@@ -1,0 +1,9 @@
+//! The canonical text of names: each has one spelling, which is written and read back.
+#![tactic(auto)]
+
+mod bytes;
+mod names;
+#[cfg(test)]
+mod tests;
+
+pub use names::{is_plain, print_name, read_name};
