@@ -1,20 +1,20 @@
 -- The birth of the log, and what files then stand for.
-use Rattle.std.proofs.Common.{◌≡◌, ◌⊎◌, ℕ, ◌+◌, ◌<◌, ◌≤◌, Bool, true, false, ◌&&◌, ◌==◌, nat_lt, List, [], ◌∷◌, ◌++◌, length, take, drop, slice_index, Option, Some, inl, inr, refl, sym, ◌∙◌, ap, subst, arith, length-append}
+use Rattle.std.proofs.Common.{◌≡◌, ℕ, ◌≤◌, Bool, true, false, ◌&&◌, ◌==◌, nat_lt, List, [], ◌∷◌, ◌++◌, length, take, Some, inl, inr, refl, sym, ◌∙◌, ap, subst, arith, length-append}
 use Rattle.std.proofs.lemmas.Bool.{eqb-true}
 use Rattle.std.proofs.lemmas.List.{take_all}
 use Rattle.hs_host.specs.declared.file_kind.FileKind.{FileKind}
 use Rattle.hs_host.specs.declared.file_kind.FileKind.TheVariants.{Script0, Script1, Log, Data, Backup}
-use Rattle.hs_host.specs.Disk.{Pending, Leaves, MayLeave, settled, written_at}
+use Rattle.hs_host.specs.Disk.{Pending, MayLeave, settled, written_at}
 use Rattle.hs_host.specs.Files.{Five, of, with_, piece, overwrite, IsOnly}
 use Rattle.hs_host.specs.Moments.{Moment, History, OneFile, disk_of}
 use Rattle.hs_gate.specs.Crash.{BeginsWith, IsWriting, called, done}
 use Rattle.hs_gate.specs.Gated.{created, empty}
-use Rattle.hs_gate.specs.Groups.{is_open, is_born, epoch_of, eight_bytes, number_of, groups_at, groups_of, whole}
+use Rattle.hs_gate.specs.Groups.{is_born, eight_bytes, number_of, groups_at}
 use Rattle.hs_gate.specs.Rewriting.{IsGroups}
 use Rattle.hs_gate.proofs.Fronts.{created_fresh}
 use Rattle.hs_gate.proofs.Numbers.{length-eight}
 use Rattle.hs_gate.proofs.Torn.{stays_behind, as_before, settled_stands}
-use Rattle.hs_slots.specs.Points.{Point, IsOlder, IsBornWith, IsPart, StandFor, IsUnborn, Means, IsSafe, IsCreating, first_point, slot}
+use Rattle.hs_slots.specs.Points.{IsOlder, IsBornWith, IsPart, StandFor, Means, IsSafe, IsCreating, first_point, slot}
 use Rattle.hs_slots.specs.Anew.{renewed}
 use Rattle.hs_slots.specs.Served.{IsHeldAs, IsServed}
 use Rattle.hs_slots.proofs.Committing.{as_part}

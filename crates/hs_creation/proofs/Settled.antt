@@ -4,9 +4,8 @@ use Rattle.hs_host.specs.declared.file_kind.FileKind.{FileKind}
 use Rattle.hs_host.specs.declared.file_kind.FileKind.TheVariants.{Script0, Script1, Log, Data, Backup}
 use Rattle.hs_host.specs.Disk.{Pending, Leaves, settled}
 use Rattle.hs_host.specs.Files.{Five, of, with_, IsOnly}
-use Rattle.hs_host.specs.Moments.{Moment, History, Since, OneFile, IsStill, disk_of, settled_files}
+use Rattle.hs_host.specs.Moments.{Moment, History, Since, OneFile, disk_of, settled_files}
 use Rattle.hs_host.proofs.Files.{of_with}
-use Rattle.hs_host.proofs.Passing.{since_weaker, since_now}
 use Rattle.hs_slots.specs.Points.{AreLeft}
 use Rattle.hs_slots.proofs.Changed.{by_file, of_other, left_there, left_elsewhere, now_elsewhere, file_elsewhere}
 use Rattle.hs_creation.specs.Creation.{AreSettled}

@@ -1,12 +1,12 @@
 -- Files that stand for nothing as yet, and what is left of that while one of them is changed.
-use Rattle.std.proofs.Common.{◌≡◌, ℕ, ◌<◌, Bool, true, false, ◌&&◌, nat_lt, List, [], ◌∷◌, ◌++◌, length, Option, None, Result, Ok, Err, OnErr, inl, inr, refl, sym, ◌∙◌, ap, subst, arith}
+use Rattle.std.proofs.Common.{◌≡◌, ℕ, ◌<◌, Bool, true, false, ◌&&◌, nat_lt, List, [], ◌∷◌, ◌++◌, length, None, Result, Ok, Err, OnErr, inl, inr, refl, sym, ◌∙◌, ap, subst, arith}
 use Rattle.hs_host.specs.declared.file_kind.FileKind.{FileKind}
 use Rattle.hs_host.specs.declared.file_kind.FileKind.TheVariants.{Script0, Script1, Log, Data, Backup}
-use Rattle.hs_host.specs.Files.{Five, of, with_, IsOnly, overwrite}
+use Rattle.hs_host.specs.Files.{Five, with_}
 use Rattle.hs_host.specs.Moments.{Moment, History, Since, IsStill, settled_files}
 use Rattle.hs_host.proofs.Passing.{since_weaker, since_now}
 use Rattle.hs_gate.specs.Groups.{is_born, eight_bytes}
-use Rattle.hs_slots.specs.Points.{Point, IsUnborn, AreLeft, Means, IsSafe, IsCreating}
+use Rattle.hs_slots.specs.Points.{IsUnborn, AreLeft, Means, IsSafe, IsCreating}
 use Rattle.hs_creation.specs.Creation.{AreSettled, LeavesUnborn, IsPut, MayPut, HaveHeaders, unborn_header}
 use Rattle.hs_creation.proofs.Settled.{all_left}
 

@@ -1,6 +1,6 @@
 use Rattle.std.proofs.Common.{◌≡◌, ℕ, List, [], ◌∷◌, true, sym, ◌∙◌, ap, subst, arith, length}
 use Rattle.hs_host.specs.declared.file_kind.FileKind.TheVariants.{Backup}
-use Rattle.hs_host.specs.Files.{Five, of}
+use Rattle.hs_host.specs.Files.{Five}
 use Rattle.hs_host.specs.Moments.{Since}
 use Rattle.hs_host.specs.Used.{Told}
 use Rattle.hs_host.proofs.Passing.{since_join, since_weaker, still_disks}

@@ -1,10 +1,10 @@
-use Rattle.std.proofs.Common.{◌≡◌, ℕ, List, sym, ◌∙◌, ap, subst}
+use Rattle.std.proofs.Common.{ℕ, List, ap, subst}
 use Rattle.hs_host.specs.Files.{Five}
 use Rattle.hs_host.specs.Moments.{Since}
 use Rattle.hs_host.specs.Used.{Told}
 use Rattle.hs_host.proofs.Passing.{since_join}
 use Rattle.hs_host.proofs.Used.{told_on, told_back}
-use Rattle.hs_slots.specs.Points.{IsSafe, IsCreating, Means}
+use Rattle.hs_slots.specs.Points.{IsSafe, IsCreating}
 use Rattle.hs_gate.specs.Rewriting.{IsGroups}
 use Rattle.hs_creation.proofs.Unborn.{unborn_safe, unborn_means, settled_unborn, safe_now, on_err}
 use Rattle.hs_creation.proofs.Born.{served_first}

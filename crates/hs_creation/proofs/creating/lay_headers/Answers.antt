@@ -1,6 +1,5 @@
 use Rattle.std.proofs.Common.{◌≡◌, ℕ, List, refl, inr, sym, ◌∙◌, ap, subst, arith, length}
-use Rattle.hs_host.specs.declared.file_kind.FileKind.TheVariants.{Log, Backup}
-use Rattle.hs_host.specs.Files.{Five, with_}
+use Rattle.hs_host.specs.Files.{Five}
 use Rattle.hs_host.specs.Moments.{Since}
 use Rattle.hs_host.specs.Used.{Told}
 use Rattle.hs_host.proofs.Passing.{since_join}

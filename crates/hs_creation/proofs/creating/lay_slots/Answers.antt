@@ -1,6 +1,6 @@
-use Rattle.std.proofs.Common.{◌≡◌, ℕ, List, [], refl, sym, ◌∙◌, ap, subst}
+use Rattle.std.proofs.Common.{◌≡◌, ℕ, List, [], sym, ◌∙◌, ap, subst}
 use Rattle.hs_host.specs.declared.file_kind.FileKind.TheVariants.{Script0, Script1, Data}
-use Rattle.hs_host.specs.Files.{Five, with_}
+use Rattle.hs_host.specs.Files.{Five}
 use Rattle.hs_host.specs.Moments.{Since}
 use Rattle.hs_host.specs.Used.{Told}
 use Rattle.hs_host.proofs.Passing.{since_join, since_weaker}
