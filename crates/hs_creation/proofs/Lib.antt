@@ -1,0 +1,4 @@
+pub mod Settled
+pub mod Putting
+pub mod Unborn
+pub mod Born
