@@ -76,7 +76,8 @@ impl Index {
 
     /// Takes a row out from under a key, where it is there. Takes no memory.
     pub fn remove(&mut self, key: &Row, row: RowNo)
-        ensures { Takes self.old self.new key.now row }
+        ensures taken { Takes self.old self.new key.now row }
+        ensures ascending { (k : _) → IsAscending (rows_with self.old k) }
     {
         if take_from(&mut self.lists, key, row, self.alloc) {
             drop_list(&mut self.lists, key);

@@ -18,8 +18,8 @@ invariant_of-self-else-take_from c =
     kept_with_list c.self.inside.lists.entries c.take_from.new.lists.entries c.args.key.now c.args.row c.self.inside.none c.self.invariant c.take_from.ensures.rows c.take_from.ensures.others
     (λ left. let both : true ≡ false = sym (c.take_from.ensures.left.1 left) ∙ c.if-take_from.false in cc)
 
-pub returns-then-take_from : goal.returns-then-take_from
-returns-then-take_from c =
+pub returns-then-take_from-clause-taken : goal.returns-then-take_from-clause-taken
+returns-then-take_from-clause-taken c =
     let mid = c.take_from.new.lists.entries in
     subst (λ (old : Keyed). Takes old c.drop_list.new.lists.entries c.args.key.now c.args.row) c.self.view_is
     (taken_out c.self.inside.lists.entries mid c.drop_list.new.lists.entries c.args.key.now c.args.row c.take_from.ensures.rows (c.take_from.ensures.left.0 c.if-take_from.true) c.drop_list.ensures)

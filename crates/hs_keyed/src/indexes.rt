@@ -1,0 +1,100 @@
+// Indexes over columns of a table.
+ghost use Rattle.std.specs.Prelude.{◌≡◌, [], Some, None, IfSome, OnOk, OnErr};
+ghost use Rattle.std.specs.FinMap.{get, insert, remove};
+ghost use Rattle.hs_index.specs.Table.{Rows, IsIndexOf};
+ghost use Rattle.hs_keyed.specs.Kept.{AreOf};
+
+use hs_base::{NoMemory, RowNo};
+use hs_index::{Index, has_null, key_in};
+use hs_values::Value;
+use sqlite_items::Items;
+use std::alloc::Global;
+
+/// An index over these columns.
+#[derive(Drop)]
+pub(crate) struct KeyIndex {
+    pub(crate) columns: Items<u32>,
+    pub(crate) index: Index,
+}
+
+impl KeyIndex {
+    // Puts a row under its key, where this has no NULL.
+    pub(crate) fn put(
+        &mut self,
+        alloc: Global,
+        row: RowNo,
+        values: &[Value],
+    ) -> Result<(), NoMemory>
+        ensures columns { self.new.columns ≡ self.old.columns }
+        ensures ok { OnOk result ((rows : Rows) → get rows row.0 ≡ None → IsIndexOf self.old.columns rows self.old.index → IsIndexOf self.old.columns (insert rows row.0 values.now) self.new.index) }
+    {
+        let key = key_in(alloc, self.columns.as_slice(), values)?;
+        if has_null(key.as_slice()) {
+            return Ok(());
+        }
+        self.index.insert(key, row)
+    }
+
+    // Takes a row out from under its key.
+    fn take(&mut self, alloc: Global, row: RowNo, values: &[Value]) -> Result<(), NoMemory>
+        ensures columns { self.new.columns ≡ self.old.columns }
+        ensures ok { OnOk result ((rows : Rows) → get rows row.0 ≡ Some values.now → IsIndexOf self.old.columns rows self.old.index → IsIndexOf self.old.columns (remove rows row.0) self.new.index) }
+    {
+        let key = key_in(alloc, self.columns.as_slice(), values)?;
+        if has_null(key.as_slice()) {
+            return Ok(());
+        }
+        self.index.remove(&key, row);
+        Ok(())
+    }
+}
+
+/// The first index over these columns.
+pub(crate) fn index_over<'a>(indexes: &'a [KeyIndex], columns: &[u32]) -> Option<&'a Index>
+    ensures { IfSome result (λ index. (rows : Rows) → AreOf rows indexes.now → IsIndexOf columns.now rows index.now) }
+{
+    for each in indexes {
+        if each.columns.as_slice() == columns {
+            return Some(&each.index);
+        }
+    }
+    None
+}
+
+/// Puts a row that wasn't there under its keys. After an `Err` there are no indexes.
+pub(crate) fn put_keys(
+    indexes: &mut Vec<KeyIndex>,
+    alloc: Global,
+    row: RowNo,
+    values: &[Value],
+) -> Result<(), NoMemory>
+    ensures ok { OnOk result ((rows : Rows) → get rows row.0 ≡ None → AreOf rows indexes.old.items → AreOf (insert rows row.0 values.now) indexes.new.items) }
+    ensures err { OnErr result (indexes.new.items ≡ []) }
+{
+    for i in 0..indexes.len() {
+        if indexes[i].put(alloc, row, values).is_err() {
+            indexes.clear();
+            return Err(NoMemory);
+        }
+    }
+    Ok(())
+}
+
+/// Takes a row that was there out from under its keys. After an `Err` there are no indexes.
+pub(crate) fn take_keys(
+    indexes: &mut Vec<KeyIndex>,
+    alloc: Global,
+    row: RowNo,
+    values: &[Value],
+) -> Result<(), NoMemory>
+    ensures ok { OnOk result ((rows : Rows) → get rows row.0 ≡ Some values.now → AreOf rows indexes.old.items → AreOf (remove rows row.0) indexes.new.items) }
+    ensures err { OnErr result (indexes.new.items ≡ []) }
+{
+    for i in 0..indexes.len() {
+        if indexes[i].take(alloc, row, values).is_err() {
+            indexes.clear();
+            return Err(NoMemory);
+        }
+    }
+    Ok(())
+}
