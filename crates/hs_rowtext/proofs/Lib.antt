@@ -1,0 +1,5 @@
+pub mod NumberLemmas
+pub mod RowLemmas
+pub mod LengthLemmas
+pub mod Printed
+pub mod LineLemmas
