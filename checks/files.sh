@@ -95,7 +95,7 @@ mkdir -p gone
 pass
 
 # Names as people write them. What the shell passes on is the name, and its five files have it.
-for name in 'with space' $'of two\nlines' 'ünïcødé' '日本語' '🙂' '.' '..' 'a.b.log' '*' '"' '~' $'\x01' 'a-b' './here' '../here/there'; do
+for name in 'with space' $'of two\nlines' 'ünïcødé' '日本語' '🙂' 'a.b.log' '*' '"' '~' $'\x01' 'a-b' './here' '../here/there'; do
     mkdir -p here
     (cd here && ended 0 "" "$program" "$name" <../commit >output) || fail "a run on '$name'"
     (cd here && ended 0 "" "$program" "$name" </dev/null >output) || fail "a second run on '$name'"
