@@ -15,11 +15,16 @@ pub enum Groups<'a> {
     Inside(Option<&'a [u32]>, &'a Groups<'a>),
 }
 
+/// What surrounds a part of a statement. It borrows the FROMs, so that none is copied.
 #[derive(Clone, Copy)]
 pub struct Surroundings<'a> {
+    /// The FROMs that it sees.
     pub scopes: Scopes<'a>,
+    /// The columns of them that may stand there.
     pub groups: Groups<'a>,
+    /// Whether aggregates of the innermost SELECT may.
     pub aggregates: bool,
+    /// Whether queries may.
     pub queries: bool,
 }
 
@@ -56,6 +61,7 @@ impl Groups<'_> {
 }
 
 impl<'a> Surroundings<'a> {
+    /// The top of a statement, where no FROM is.
     pub fn outermost() -> Surroundings<'a>
         ensures { seen result ≡ spec.outermost }
     {
@@ -67,7 +73,7 @@ impl<'a> Surroundings<'a> {
         }
     }
 
-    /// ON, WHERE, GROUP BY and keys of ORDER BY.
+    /// Those of ON, WHERE, GROUP BY and keys of ORDER BY, over the rows of these tables.
     pub fn over_rows(scope: &'a Scope, around: &'a Surroundings<'a>) -> Surroundings<'a>
         ensures { seen result ≡ spec.over_rows scope.now (seen around.now) }
     {
@@ -79,7 +85,7 @@ impl<'a> Surroundings<'a> {
         }
     }
 
-    /// Items and HAVING, where these columns may stand.
+    /// Those of items and HAVING: these columns may stand there, by their places, or all where that is None.
     pub fn over_groups(
         scope: &'a Scope,
         columns: Option<&'a [u32]>,
@@ -95,7 +101,7 @@ impl<'a> Surroundings<'a> {
         }
     }
 
-    /// The operand of an aggregate.
+    /// Those of the operand of an aggregate, where all columns of its FROM may stand and no aggregate may.
     pub fn in_aggregate(&self) -> Surroundings<'a>
         ensures { seen result ≡ spec.in_aggregate (seen self.now) }
     {
@@ -111,7 +117,7 @@ impl<'a> Surroundings<'a> {
         }
     }
 
-    /// A value of VALUES.
+    /// Those of a value of VALUES, where no aggregate may stand.
     pub fn in_values(&self) -> Surroundings<'a>
         ensures { seen result ≡ spec.in_values (seen self.now) }
     {
@@ -123,7 +129,7 @@ impl<'a> Surroundings<'a> {
         }
     }
 
-    /// A CHECK.
+    /// Those of a CHECK, where neither aggregates nor queries may stand.
     pub fn in_check(&self) -> Surroundings<'a>
         ensures { seen result ≡ spec.in_check (seen self.now) }
     {

@@ -1,5 +1,5 @@
 // What a column means where it is written.
-ghost use Rattle.std.specs.Prelude.{◌≡◌};
+ghost use Rattle.std.specs.Prelude.{◌≡◌, OnErr};
 ghost use Rattle.hs_meaning.specs.Expressions.{column_meaning, place_meaning};
 ghost use Rattle.hs_scope.specs.Names.{found_in};
 ghost use Rattle.hs_surroundings.specs.Around.{seen};
@@ -15,7 +15,8 @@ use hs_scope::Found;
 use hs_typed::{Faults, Typed};
 use std::alloc::Global;
 
-/// The column at a place of the FROM so many FROMs outward, written at `at`.
+/// The column at a place of the FROM so many FROMs outward, which is written at byte `at`. None where nothing is known of its
+/// values, and where it may not stand there, which is noted as a fault of types.
 pub fn column_at(
     at: u32,
     around: &Surroundings<'_>,
@@ -40,7 +41,9 @@ pub fn column_at(
     }
 }
 
-/// What a column's name means that is written at `at`.
+/// What a column's name means that is written at byte `at`: the first FROM from the inside outward that has the name decides.
+/// None where nothing is known of its values, and where it is a fault, which is noted: no FROM has it, the first one has it
+/// twice, or it may not stand there. An `Err` is want of memory, and then nothing is noted.
 pub fn column(
     at: u32,
     name: &ColumnName,
@@ -48,7 +51,8 @@ pub fn column(
     faults: &mut Faults,
     alloc: Global,
 ) -> Result<Option<Typed>, NoMemory>
-    ensures { Finds (column_meaning at (seen around.now) name.now (found_in (seen around.now).scopes name.now)) faults.old faults.new result }
+    ensures found { Finds (column_meaning at (seen around.now) name.now (found_in (seen around.now).scopes name.now)) faults.old faults.new result }
+    ensures err { OnErr result (faults.new ≡ faults.old) }
 {
     match around.scopes.find(name)? {
         Found::Column {
