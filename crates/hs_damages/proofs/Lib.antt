@@ -1,0 +1,4 @@
+pub mod Heads
+pub mod Taking
+pub mod Sighted
+pub mod Standing

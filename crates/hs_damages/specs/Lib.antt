@@ -1,0 +1,5 @@
+pub mod Damages
+pub mod Meaning
+pub mod Reading
+pub mod Sighting
+pub mod Stops
