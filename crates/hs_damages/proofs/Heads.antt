@@ -1,13 +1,11 @@
 -- Headers by the first bytes of their files.
-use Rattle.std.proofs.Common.{◌≡◌, ℕ, ◌<◌, ◌≤◌, Bool, true, false, ◌&&◌, ◌==◌, nat_lt, nat_le, if◌then◌else◌, List, [], ◌∷◌, length, take, drop, slice_index, get_or, Option, Some, None, min, refl, sym, ◌∙◌, ap, arith, length-take, get_or-take}
+use Rattle.std.proofs.Common.{◌≡◌, ℕ, ◌<◌, Bool, true, false, nat_lt, nat_le, List, length, take, get_or, min, refl, ◌∙◌, ap, arith, length-take, get_or-take}
 use Rattle.std.proofs.lemmas.Bool.{leb-true, leb-false, le-leb, lt-ltb}
 use Rattle.std.proofs.lemmas.List.{take_all, take-take, take_min}
-use Rattle.hs_gate.specs.Groups.{is_open, is_born, epoch_of}
+use Rattle.hs_gate.specs.Groups.{epoch_of}
 use Rattle.hs_gate.proofs.Fronts.{epoch_same}
-use Rattle.hs_gate.proofs.Pieces.{take_same}
 use Rattle.hs_damages.specs.declared.header.Header.{Header}
 use Rattle.hs_host.specs.Files.{Five}
-use Rattle.hs_damages.specs.declared.headers.Headers.{Headers}
 use Rattle.hs_damages.specs.Sighting.{header_of, headers_of}
 
 -- the first eleven bytes of a file show what all of it does

@@ -1,12 +1,12 @@
 -- The point that files without damage stand for.
-use Rattle.std.proofs.Common.{◌≡◌, ◌⊎◌, ℕ, ◌<◌, ◌≤◌, Bool, true, false, not, if◌then◌else◌, List, [], ◌∷◌, ◌++◌, Option, Some, None, Result, Ok, Err, inl, inr, refl, sym, ◌∙◌, ap, subst, arith}
+use Rattle.std.proofs.Common.{◌≡◌, ℕ, ◌<◌, ◌≤◌, Bool, true, false, not, if◌then◌else◌, List, [], ◌++◌, Option, Some, None, Result, Ok, Err, inl, inr, refl, sym, ◌∙◌, ap, subst, arith}
 use Rattle.std.proofs.lemmas.Bool.{ltb-false, eqb-true, eqb-false, true≢false}
 use Rattle.hs_host.specs.declared.file_kind.FileKind.{FileKind}
 use Rattle.hs_host.specs.declared.file_kind.FileKind.TheVariants.{Script0, Script1, Log, Data, Backup}
 use Rattle.hs_host.specs.Files.{Five, of}
-use Rattle.hs_gate.specs.Groups.{Groups, is_open, epoch_of, groups_of, whole}
+use Rattle.hs_gate.specs.Groups.{is_open, epoch_of, groups_of, whole}
 use Rattle.hs_gate.specs.Rewriting.{IsGroups}
-use Rattle.hs_slots.specs.Points.{Point, slot, IsHeaded, IsOlder, Counts, IsBornWith, IsPart, StandFor}
+use Rattle.hs_slots.specs.Points.{Point, slot, IsHeaded, IsOlder, Counts, IsPart, StandFor}
 use Rattle.hs_slots.proofs.Parts.{to_current, to_other}
 use Rattle.hs_damages.specs.declared.damage.Damage.{Damage}
 use Rattle.hs_damages.specs.declared.headers.Current.{Current}

@@ -1,22 +1,18 @@
 -- Groups that are judged one after another.
-use Rattle.std.proofs.Common.{◌≡◌, ℕ, ◌+◌, Bool, true, false, if◌then◌else◌, List, [], ◌∷◌, ◌++◌, length, Result, Ok, Err, IfOk, refl, sym, ◌∙◌, ap, arith, append_assoc, append-nil, length-append}
-use Rattle.hs_host.specs.Host.{Rose}
-use Rattle.hs_gate.specs.declared.gate_fault.GateFault.{GateFault}
-use Rattle.hs_gate.specs.declared.gate_fault.GateFault.TheVariants as gate
+use Rattle.std.proofs.Common.{◌≡◌, ℕ, ◌+◌, Bool, true, false, if◌then◌else◌, List, [], ◌∷◌, length, Result, Ok, Err, IfOk, refl, sym, ◌∙◌, ap, arith, append_assoc, append-nil, length-append}
 use Rattle.hs_gate.specs.declared.group_reader.GroupReader.{GroupReader}
-use Rattle.hs_gate.specs.Faults.{HasGateCause}
-use Rattle.hs_gate.specs.Groups.{Groups, ahead, whole, broken, groups_at, groups_of}
+use Rattle.hs_gate.specs.Groups.{Groups, ahead, whole, groups_at, groups_of}
 use Rattle.hs_gate.specs.Reading.{IsReadTo, payload_in}
 use Rattle.hs_damages.specs.declared.damage.Damage.{Damage}
 use Rattle.hs_damages.specs.declared.damage.Stop.{Stop}
 use Rattle.hs_damages.specs.declared.damage.Stop.TheVariants.{Damaged, Disk, NoMemory}
 use Rattle.hs_damages.specs.declared.part.Part.{Part}
 use Rattle.hs_damages.specs.declared.part.Part.TheVariants.{Checkpoint, Images, Commits}
-use Rattle.hs_damages.specs.Damages.{damage_in, next_damage, judged, judged_groups, judged_counted, and_then}
+use Rattle.hs_damages.specs.Damages.{damage_in, next_damage, judged, judged_groups, judged_counted}
 use Rattle.hs_damages.specs.Meaning.{Meaning, Taken, nothing, of_part, and_more, and_one}
-use Rattle.hs_damages.specs.Reading.{IsJudging, Takes, Ends, Goes, Judges, left_judged, count_in, place_in}
+use Rattle.hs_damages.specs.Reading.{IsJudging, Takes, Ends, Goes, left_judged, count_in, place_in}
 use Rattle.hs_damages.specs.Sighting.{open_epoch, is_of}
-use Rattle.hs_damages.specs.Stops.{HasCause, stop_at}
+use Rattle.hs_damages.specs.Stops.{HasCause}
 
 -- one payload more
 one_more : (taken : Taken) (part : Part) (payload : List ℕ) → length (of_part (and_one taken part payload) part) ≡ length (of_part taken part) + 1

@@ -1,6 +1,5 @@
 -- What the headers of five files show.
 use Rattle.std.specs.Prelude.{ℕ, Bool, true, false, not, ◌&&◌, ◌||◌, ◌==◌, nat_lt, nat_le, if◌then◌else◌, List, length, slice_index, Option, Some, None, Result, Ok, Err}
-use Rattle.hs_host.specs.declared.file_kind.FileKind.{FileKind}
 use Rattle.hs_host.specs.declared.file_kind.FileKind.TheVariants as file
 use Rattle.hs_host.specs.Files.{Five}
 use Rattle.hs_gate.specs.Groups.{is_open, is_born, epoch_of}

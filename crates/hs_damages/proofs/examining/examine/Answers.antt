@@ -1,4 +1,4 @@
-use Rattle.std.proofs.Common.{◌≡◌, ℕ, List, true, Option, Some, Result, Ok, sym, ◌∙◌, ap, subst, arith}
+use Rattle.std.proofs.Common.{◌≡◌, ℕ, List, true, Some, Ok, sym, ap, subst, arith}
 use Rattle.hs_host.specs.Files.{Five, of}
 use Rattle.hs_gate.specs.Groups.{is_open}
 use Rattle.hs_host.proofs.Used.{reads_on, told_back}

@@ -1,9 +1,8 @@
-use Rattle.std.proofs.Common.{◌≡◌, ℕ, List, [], ◌∙◌}
+use Rattle.std.proofs.Common.{◌≡◌, [], ◌∙◌}
 use Rattle.hs_host.specs.declared.file_kind.FileKind.TheVariants.{Backup}
 use Rattle.hs_host.specs.Files.{of}
 use Rattle.hs_host.specs.Used.{Told, ReadsFiles}
 use Rattle.hs_host.proofs.Used.{reads_on, told_back}
-use Rattle.hs_damages.specs.Meaning.{Taken}
 use Rattle.hs_damages.proofs.Taking.{base_keeps, images_keep}
 use Rattle.hs_damages.proofs.examining.examine_born.Goals as goal
 use Rattle.hs_damages.proofs.examining.examine_born.Goals.{In_ok-judge_groups, After-judge_counted}
