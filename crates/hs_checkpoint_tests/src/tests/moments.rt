@@ -11,7 +11,7 @@ use hs_slots::Files;
 use std::alloc::{AllocError, Global};
 use std::test::Fail;
 
-const FILLS: [Fill; 3] = [Fill::Old, Fill::New, Fill::Ones];
+pub const FILLS: [Fill; 3] = [Fill::Old, Fill::New, Fill::Ones];
 
 // What files stand for before and after the first of two checkpoints, and after the second.
 const CHECKPOINTS: &str = "\
@@ -23,7 +23,7 @@ slot 0 epoch 3 base d| logged  images ;";
 const OLDER: &str = "slot 0 epoch 3 base a| logged  images ;";
 
 // A gated file with this header, and with this group if there is one.
-fn gated(
+pub fn gated(
     alloc: Global,
     birth: u8,
     gate: u8,
@@ -52,7 +52,7 @@ fn five(alloc: Global, slot: u8, others: u8) -> Result<Vec<Vec<u8>>, AllocError>
 }
 
 // Adds what is left to what was shown, where it is other than what was added last.
-fn show(
+pub fn show(
     shown: &mut String,
     last: &mut String,
     alloc: Global,
