@@ -3,25 +3,11 @@ use Rattle.std.specs.Prelude.{ℕ, Bool, not, is_some, if◌then◌else◌, List
 use Rattle.std.specs.List.{flat_map, position_from}
 use Rattle.std.specs.Map.{lookup}
 use Rattle.std.specs.Str.{bytes_eq}
-use Rattle.hs_ast.specs.declared.definition.DataType.{DataType}
-use Rattle.hs_ast.specs.declared.definition.DataType.TheVariants as d
 use Rattle.hs_ast.specs.declared.word.Identifier.{Identifier}
 use Rattle.hs_plan.specs.declared.definition.Column.{Column}
 use Rattle.hs_plan.specs.declared.fault.PlacedFault.{PlacedFault}
 use Rattle.hs_values.specs.declared.sql_type.SqlType.{SqlType}
-use Rattle.hs_values.specs.declared.sql_type.SqlType.TheVariants as t
 use Rattle.hs_elements.specs.Faults.{Text, where_so, no_such_column_at}
-
--- the type that is written
-abbrev pub type_of : DataType → SqlType
-type_of d.SmallInt = t.Small
-type_of d.Integer = t.Integer
-type_of d.BigInt = t.Big
-type_of (d.Decimal precision scale) = t.Decimal precision scale
-type_of (d.Varchar most) = t.Varchar most
-type_of d.Boolean = t.Bool
-type_of d.Date = t.Date
-type_of d.Timestamp = t.Stamp
 
 -- names with types, in order
 abbrev pub TypedNames : Type 0

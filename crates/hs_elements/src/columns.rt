@@ -4,29 +4,13 @@ ghost use Rattle.hs_elements.specs.Columns as spec;
 ghost use Rattle.hs_elements.specs.Faults.{least_of};
 
 use crate::faults::Faults;
-use hs_ast::{DataType, Identifier};
+use hs_ast::Identifier;
 use hs_base::NoMemory;
 use hs_plan::Column;
 use hs_values::SqlType;
 use indexmap::IndexMap;
 use std::alloc::Global;
 use std::marker::Model;
-
-/// The type that is written.
-pub fn type_of(data_type: DataType) -> SqlType
-    ensures { result ≡ spec.type_of data_type }
-{
-    match data_type {
-        DataType::SmallInt => SqlType::Small,
-        DataType::Integer => SqlType::Integer,
-        DataType::BigInt => SqlType::Big,
-        DataType::Decimal { precision, scale } => SqlType::Decimal { precision, scale },
-        DataType::Varchar(max) => SqlType::Varchar { max },
-        DataType::Boolean => SqlType::Bool,
-        DataType::Date => SqlType::Date,
-        DataType::Timestamp => SqlType::Stamp,
-    }
-}
 
 /// Columns by name, each name once, in order. Contracts see their names with their types.
 #[derive(Drop)]

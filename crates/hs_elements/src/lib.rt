@@ -7,7 +7,7 @@ mod defaults;
 mod faults;
 mod names;
 
-pub use columns::{Columns, type_of};
+pub use columns::Columns;
 pub use defaults::default_value;
 pub use faults::Faults;
 pub use names::{ConstraintKind, NameSet, free_name, is_taken};

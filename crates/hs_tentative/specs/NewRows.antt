@@ -1,6 +1,5 @@
 -- The rows that a writing statement makes of values.
 use Rattle.std.specs.Prelude.{ℕ, List, [], ◌∷◌, map, Option, None, Some, Result, Ok, Err}
-use Rattle.std.specs.List.{filter_map}
 use Rattle.std.specs.List as list
 use Rattle.std.specs.Option.{option_map_or, unwrap_or}
 use Rattle.hs_plan.specs.declared.definition.Column.{Column}
@@ -13,7 +12,6 @@ use Rattle.hs_values.specs.declared.value.Value.{Value}
 use Rattle.hs_values.specs.declared.value.Value.TheVariants as v
 use Rattle.hs_values.specs.Outcome.{◌>>=◌}
 use Rattle.hs_values.specs.SqlType.{assign_of}
-use Rattle.hs_rel.specs.Selection.{least, unless}
 use Rattle.hs_actions.specs.Acting.{with_columns}
 
 -- what an expression gives over a row
@@ -73,17 +71,3 @@ taken_in columns places row = all_stored columns places row >>= λ values. Ok (w
 abbrev pub updated : Evaluate → List Column → List Assignment → List Value → Result (List Value) EvalFault
 updated evaluate columns assignments row =
     values_for evaluate columns row (map (λ a. a.column) assignments) (map (λ a. a.value) assignments) >>= λ values. Ok (with_columns row (map (λ a. a.column) assignments) values)
-
--- ---- several rows
-
-abbrev pub fault_in : {A : Type 0} → Result A EvalFault → Option EvalFault
-fault_in (Ok x) = None
-fault_in (Err fault) = Some fault
-
-abbrev pub good_in : {A : Type 0} → Result A EvalFault → Option A
-good_in (Ok x) = Some x
-good_in (Err fault) = None
-
--- all of them, unless there are faults: then the least
-abbrev pub all_or_least : {A : Type 0} → List (Result A EvalFault) → Result (List A) EvalFault
-all_or_least rs = unless (least (filter_map fault_in rs)) (filter_map good_in rs)

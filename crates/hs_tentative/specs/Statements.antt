@@ -20,7 +20,8 @@ use Rattle.hs_rel.specs.Selection.{is_true, least_fault, unless}
 use Rattle.hs_changes.specs.Settings.{Maps}
 use Rattle.hs_actions.specs.Referencing.{Keys}
 use Rattle.hs_actions.specs.Work.{Edits, with_actions, change_of}
-use Rattle.hs_tentative.specs.NewRows.{Evaluate, inserted, taken_in, updated, all_or_least}
+use Rattle.hs_expression.specs.Outcomes.{all_or_least}
+use Rattle.hs_tentative.specs.NewRows.{Evaluate, inserted, taken_in, updated}
 
 -- what a statement is told over: what expressions and queries give, the columns of each table, the foreign keys, and the
 -- rows before it
