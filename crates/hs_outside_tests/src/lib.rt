@@ -1,4 +1,4 @@
-//! Gated files, the log and the entries over hosts in memory: tests alone. No crate of the product stands on this one.
+//! Gated files and the log over hosts in memory: tests alone. No crate of the product stands on this one.
 #![tactic(auto)]
 
 #[cfg(test)]

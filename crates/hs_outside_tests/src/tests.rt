@@ -1,6 +1,5 @@
 // The crates that use the outside, by their public names.
 mod commit_texts;
-mod entries;
 mod gates;
 mod logs;
 mod support;

@@ -1,6 +1,5 @@
 // The runs of the top call, by its public names.
-mod commit_texts;
-mod inputs;
 mod logs;
+mod never;
 mod noting;
 mod support;

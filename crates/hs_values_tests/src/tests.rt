@@ -1,24 +1,14 @@
-// Values that another program compared, cut, sorted and reckoned, and each list and each call once.
+// Rows that another program sorted, and each list and each call once.
 mod calls;
-mod comparing;
-mod dates;
-mod decimals;
 mod lists;
 mod maps;
 mod sorting;
-mod storing;
-mod texts;
 
 use hs_values::{Dec, ValueRef};
 
 /// A decimal of so many units.
 fn decimal(units: i128, scale: u8) -> ValueRef<'static> {
     ValueRef::Dec(Dec { units, scale })
-}
-
-/// A whole number.
-fn int(n: i64) -> ValueRef<'static> {
-    ValueRef::Int(n)
 }
 
 /// Whether two values are of one kind and written alike.

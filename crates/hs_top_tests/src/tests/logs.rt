@@ -1,111 +1,18 @@
-// The log of a run: what it holds, what is read of it, and what its faults do.
+// The files of a run: what faults of the devices do to its log, and that it leaves another program's.
 use crate::tests::support::{shown, words};
 use hs_host::FileKind;
 use hs_memhost::{CallList, Images, MemHost};
 use hs_top::{Damage, Status, run};
 use hs_values::Bytes;
-use std::alloc::{AllocError, Global};
+use std::alloc::Global;
 use std::process::Abort;
 use std::test::Fail;
 
 const FIRST: &[u8] =
     b"a: CREATE TABLE T (N BIGINT, M BIGINT);a: INSERT INTO T VALUES (2,5);a: INSERT INTO T VALUES (1,-7);a: SELECT * FROM T;a: SELECT * FROM U;a: CREATE TABLE T (N BIGINT);a: COMMIT;";
 
-// The log that the first example leaves, and what is read of it.
-#[test]
-fn the_database_is_kept(rt: HostRuntime) -> Result<(), Fail> {
-    let alloc = rt.alloc();
-    let first = shown(alloc, FIRST, 100_000, b"", &[])?;
-    assert_eq!(rt; first.status, Status::Done);
-    let wanted =
-        "opened at 0/1 a: ok committed 1/2 a: ok 1 row committed 2/3 a: ok 1 row committed 3/4 a: row 1,-7/4 a: row 2,5/4 a: ok 2 rows/5 a: refused no such U/6 a: refused exists T/7 a: refused not built/closed at 3/";
-    assert_eq!(rt; first.text.as_slice(), wanted.as_bytes());
-
-    let mut log = Vec::new(alloc);
-    log.extend_from_slice(&[1, 1, 0, 0, 0, 0, 0, 0, 0, 1])?;
-    log.extend_from_slice(&[1, 0, 0, 0, 0, 0, 0, 0, 55])?;
-    log.extend_from_slice(b"/*C1*/\nCREATE MEMORY TABLE T(N BIGINT,M BIGINT)\nCOMMIT\n")?;
-    log.extend_from_slice(&[1, 0, 0, 0, 0, 0, 0, 0, 33])?;
-    log.extend_from_slice(b"INSERT INTO T VALUES(2,5)\nCOMMIT\n")?;
-    log.extend_from_slice(&[1, 0, 0, 0, 0, 0, 0, 0, 34])?;
-    log.extend_from_slice(b"INSERT INTO T VALUES(1,-7)\nCOMMIT\n")?;
-    log.push(0)?;
-    assert_eq!(rt; first.log.as_slice(), log.as_slice());
-    assert_eq!(rt; log.len(), 160);
-
-    let next = shown(alloc, b"b: SELECT * FROM T;", 100_000, &first.log, &[])?;
-    assert_eq!(rt; next.status, Status::Done);
-    let wanted = "opened at 3/1 b: row 1,-7/1 b: row 2,5/1 b: ok 2 rows/closed at 3/";
-    assert_eq!(rt; next.text.as_slice(), wanted.as_bytes());
-    assert_eq!(rt; next.log.as_slice(), log.as_slice());
-    Ok(())
-}
-
 // A log of two commits, by two sessions.
 const TWO: &[u8] = b"a: CREATE TABLE T (N BIGINT);b: INSERT INTO T VALUES (7);";
-
-// What is read of it where one byte is 0, 1, 7 and 255, and where it is cut: `.` is a new database, a
-// digit is how many commits it opens at, and a letter the first damaged group, `a` for group 0.
-const CHANGED: [(u8, &str); 4] = [
-    (
-        0,
-        ".a2222222a02222222bbbbbbbbbbbbbbbbbbbbbbbbbbbbbbbbbbbbbbbbbbbbbbb12222222ccccccccccccccccccccccccccccccccccccccc2",
-    ),
-    (
-        1,
-        "22aaaaaaa22bbbbbbbbbbbbbbbbbbbbbbbbbbbbbbbbbbbbbbbbbbbbbbbbbbbbbb2ccccccccccccccccccccccccccccccccccccccccccccccd",
-    ),
-    (
-        7,
-        ".aaaaaaaaa0bbbbbbbbbbbbbbbbbbbbbbbbbbbbbbbbbbbbbbbbbbbbbbbbbbbbbb1cccccccccccccccccccccccccccccccccccccccccccccc2",
-    ),
-    (
-        255,
-        ".aaaaaaaaa0bbbbbbbbbbbbbbbbbbbbbbbbbbbbbbbbbbbbbbbbbbbbbbbbbbbbbb1cccccccccccccccccccccccccccccccccccccccccccccc2",
-    ),
-];
-
-const CUT: &str =
-    ".aaaaaaaaaabbbbbbbbbbbbbbbbbbbbbbbbbbbbbbbbbbbbbbbbbbbbbbbbbbbbbbbccccccccccccccccccccccccccccccccccccccccccccccc2";
-
-// The letter of how a run over a log ended.
-fn letter(alloc: Global, log: &[u8]) -> Result<u8, AllocError> {
-    let run = shown(alloc, b"", 100_000, log, &[])?;
-    let born = log.first() == Some(&1);
-    Ok(match run.status {
-        Status::Done if !born => b'.',
-        Status::Done if run.text.as_slice() == b"opened at 0/closed at 0/".as_slice() => b'0',
-        Status::Done if run.text.as_slice() == b"opened at 1/closed at 1/".as_slice() => b'1',
-        Status::Done if run.text.as_slice() == b"opened at 2/closed at 2/".as_slice() => b'2',
-        Status::Damaged(Damage::Log(group))
-            if run.text.is_empty() && run.log.as_slice() == log && group < 8 => {
-            b'a' + group as u8
-        }
-        _ => b'?',
-    })
-}
-
-#[test]
-fn damaged_logs(rt: HostRuntime) -> Result<(), Fail> {
-    let alloc = rt.alloc();
-    let log = shown(alloc, TWO, 100_000, b"", &[])?.log;
-    assert_eq!(rt; log.len(), 113);
-    for (value, wanted) in CHANGED {
-        let mut letters = Vec::new(alloc);
-        for place in 0..log.len() {
-            let mut changed = log.clone()?;
-            changed[place] = value;
-            letters.push(letter(alloc, &changed)?)?;
-        }
-        assert_eq!(rt; letters.as_slice(), wanted.as_bytes(), "value {value}");
-    }
-    let mut letters = Vec::new(alloc);
-    for len in 0..log.len() + 1 {
-        letters.push(letter(alloc, &log[..len])?)?;
-    }
-    assert_eq!(rt; letters.as_slice(), CUT.as_bytes());
-    Ok(())
-}
 
 // The calls of the host in a run, by their devices: the disk, the output and the input. A log that is born and short is
 // looked at by two calls, read by two, and synced, cut and synced again, which are as many as a new one takes.

@@ -1,4 +1,5 @@
-// Each call that takes no memory and has no table of its own, once.
+// Each call that takes no memory and has no cases of its own, once.
+use hs_temporal::{day_and_time, moment_at};
 use hs_values::EvalFault::{DivisionByZero, NoMemory, Range};
 use hs_values::{Dec, EvalFault, checked_decimal, laws, rescale, ten_to, whole};
 use std::alloc::AllocError;
@@ -36,4 +37,15 @@ fn the_laws_can_be_cited() {
     laws::values_of_a_type_are_lawful();
     laws::ties_of_one_type_are_identical();
     laws::the_least_fault_counts();
+    hs_scalar::laws::a_text_is_like_its_pieces();
+    hs_temporal::laws::lawful_days_are_of_the_years_1_to_9999();
+    hs_temporal::laws::a_day_is_one_date();
+    hs_temporal::laws::a_timestamp_is_a_day_and_a_time();
+    hs_temporal::laws::a_text_is_of_one_day();
+}
+
+#[test]
+fn a_timestamp_is_a_day_and_a_time(rt: HostRuntime) {
+    assert!(rt; day_and_time(-1) == (-1, 86_399_999_999));
+    assert!(rt; moment_at(19_782, 29_100_000_000) == 1_709_193_900_000_000);
 }
