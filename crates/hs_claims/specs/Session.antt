@@ -1,0 +1,6 @@
+-- The numbers of sessions.
+use Rattle.std.specs.Prelude.{ℕ, ◌≤◌}
+
+-- sessions are numbered from 1 to 64
+abbrev pub IsSession : ℕ → Type 0
+IsSession s = (1 ≤ s) × (s ≤ 64)

@@ -1,0 +1,4 @@
+pub mod Book
+pub mod Modes
+pub mod Savepoints
+pub mod Settings
