@@ -1,0 +1,9 @@
+pub mod Answer
+pub mod Bodies
+pub mod Frame
+pub mod From
+pub mod Groups
+pub mod Layers
+pub mod Order
+pub mod Places
+pub mod Selects

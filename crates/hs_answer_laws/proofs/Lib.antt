@@ -1,0 +1,9 @@
+pub mod Framed
+pub mod Groups
+pub mod Layers
+pub mod Least
+pub mod Order
+pub mod Outcomes
+pub mod Plain
+pub mod Rows
+pub mod Unordered
