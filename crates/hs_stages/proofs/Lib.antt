@@ -1,0 +1,4 @@
+pub mod Gathering
+pub mod Pairing
+pub mod Parts
+pub mod Widened
