@@ -1,0 +1,2 @@
+pub mod CleanValues
+pub mod CleanColumns

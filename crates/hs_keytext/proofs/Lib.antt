@@ -1,0 +1,4 @@
+pub mod PlaceLemmas
+pub mod ActionLemmas
+pub mod KeyLemmas
+pub mod Printed
