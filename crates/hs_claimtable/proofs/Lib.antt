@@ -1,0 +1,4 @@
+pub mod Either
+pub mod Indexed
+pub mod Kept
+pub mod Resources
