@@ -1,0 +1,5 @@
+pub mod Answered
+pub mod AtPlaces
+pub mod BehindKeys
+pub mod Keeping
+pub mod Lists

@@ -1,0 +1,3 @@
+pub mod AllCopied
+pub mod Looking
+pub mod Numbers

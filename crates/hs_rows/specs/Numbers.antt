@@ -1,0 +1,38 @@
+-- The rows of a table from a number on.
+use Rattle.std.specs.Prelude.{ℕ, suc, ◌≤◌, Bool, if◌then◌else◌, nat_lt, is_some, List, [], ◌∷◌, map, Option, Some, None, ⊤}
+use Rattle.std.specs.FinMap.{entries, get}
+use Rattle.hs_base.specs.declared.numbers.RowNo.{RowNo}
+use Rattle.hs_values.specs.declared.value.Value.{Value}
+use Rattle.hs_index.specs.Table.{Rows}
+
+-- the least number behind a row, or the least of all
+abbrev pub start : Option RowNo → ℕ
+start None = 0
+start (Some row) = suc row.0
+
+abbrev pub from_number : ℕ → List (ℕ × List Value) → List (ℕ × List Value)
+from_number n [] = []
+from_number n (e ∷ es) = if nat_lt e.0 n then from_number n es else e ∷ es
+
+abbrev pub first_number : List (ℕ × List Value) → Option RowNo
+first_number [] = None
+first_number (e ∷ es) = Some (record { 0 = e.0 })
+
+-- the row with the least number behind this one
+unfoldable pub next_in : Rows → Option RowNo → Option RowNo
+next_in rows after = first_number (from_number (start after) (entries rows))
+
+unfoldable pub row_in : Rows → ℕ → Option (List Value)
+row_in rows row = get rows row
+
+abbrev pub has_row : Rows → ℕ → Bool
+has_row rows row = is_some (row_in rows row)
+
+-- a number is behind that of this row, where there is one
+abbrev pub IsBehind : Option RowNo → Option RowNo → Type 0
+IsBehind after None = ⊤
+IsBehind after (Some row) = start after ≤ row.0
+
+-- the rows from a number on, in the order of their numbers
+unfoldable pub rows_from : Rows → ℕ → List (List Value)
+rows_from rows n = map (λ e. e.1) (from_number n (entries rows))
