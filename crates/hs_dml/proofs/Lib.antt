@@ -1,0 +1,4 @@
+pub mod Choosing
+pub mod Edits
+pub mod Inserts
+pub mod Standing
