@@ -1,0 +1,4 @@
+pub mod AllNames
+pub mod Giving
+pub mod Least
+pub mod Parents
