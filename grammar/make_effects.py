@@ -13,7 +13,7 @@ import re
 import sys
 from collections import Counter
 
-from make_table import CRATES, Grammar, HERE
+from make_table import CRATES, Grammar, HERE, laid_out
 
 
 def effects_of_marks(text):
@@ -146,7 +146,7 @@ def main():
     kinds = re.findall(r'^abbrev pub (\w+) : ℕ$', text, re.M)
     made = effects_file(g, Typing(g, effects_of_marks(text)), kinds)
     path = os.path.join(CRATES, 'hs_parser', 'proofs', 'RuleEffects.antt')
-    if os.path.exists(path) and re.sub(r'\s', '', open(path).read()) == re.sub(r'\s', '', made):
+    if os.path.exists(path) and laid_out(open(path).read()) == laid_out(made):
         return 0
     if '--check' in sys.argv:
         print('hs_parser/proofs/RuleEffects.antt is not what the grammar makes')

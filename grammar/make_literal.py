@@ -8,7 +8,7 @@ import os
 import re
 import sys
 
-from make_table import CRATES, Grammar, HERE, MARK_KINDS, SYMBOL_NAMES
+from make_table import CRATES, Grammar, HERE, MARK_KINDS, SYMBOL_NAMES, laid_out
 from numbering import PATH
 
 ALONE = 256  # the number of the first rule that the table hasn't
@@ -811,13 +811,10 @@ def main():
         raise SystemExit('only decimal may be without a run, but these are:\n' + '\n'.join(
             f'  {name} : {" ".join(written_part(part, g) for part in parts)}' for _, name, parts, _ in left_out))
 
-    def bare(text):
-        return re.sub(r'\s', '', text)
-
     stale = []
     for name, text in files.items():
         path = os.path.join(CRATES, name)
-        if os.path.exists(path) and bare(open(path).read()) == bare(text):
+        if os.path.exists(path) and laid_out(open(path).read()) == laid_out(text):
             continue
         if '--check' in sys.argv:
             stale.append(name)

@@ -393,6 +393,12 @@ def words_file(g):
     return '\n'.join(out) + '\n'
 
 
+def laid_out(text):
+    """The words and signs of a text, which its layout doesn't change, but for a comma in front of a bracket that closes."""
+    words = re.findall(r'\w+|[^\w\s]', text)
+    return [word for word, behind in zip(words, words[1:] + ['']) if word != ',' or behind not in (')', ']', '}')]
+
+
 def main():
     g = Grammar(open(os.path.join(HERE, 'sql.g')).read())
     g.work_out()
@@ -406,13 +412,10 @@ def main():
         return 1
     files = {'hs_syntax/src/table.rt': table_file(g), 'hs_syntax/src/words.rt': words_file(g), 'hs_syntax/specs/Rows.antt': rows_file(g),
              'hs_parser/src/marks.rt': mark_file(g), PATH: g.numbers.text(), **small_tables()}
-    def bare(text):
-        return re.sub(r'[\s,]', '', text)
-
     stale = []
     for name, text in files.items():
         path = os.path.join(CRATES, name)
-        if os.path.exists(path) and bare(open(path).read()) == bare(text):
+        if os.path.exists(path) and laid_out(open(path).read()) == laid_out(text):
             continue
         if '--check' in sys.argv:
             stale.append(name)
