@@ -4,7 +4,5 @@
 mod frames;
 mod held_page;
 mod spare_pages;
-#[cfg(test)]
-mod tests;
 
 pub use frames::{Frame, Frames};

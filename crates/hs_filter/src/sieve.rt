@@ -1,9 +1,9 @@
 // Rows for which a condition is TRUE.
-ghost use Rattle.std.specs.Prelude.{◌≡◌, Some, IfOk};
+ghost use Rattle.std.specs.Prelude.{◌≡◌, Some};
 ghost use Rattle.std.specs.FinMap.{values};
 ghost use Rattle.hs_answer.specs.Places.{value_over};
 ghost use Rattle.hs_expression.specs.Expression.{value_of};
-ghost use Rattle.hs_expression.specs.Surroundings.{row_seen, rows_around};
+ghost use Rattle.hs_expression.specs.Surroundings.{rows_around};
 ghost use Rattle.hs_rel.specs.Outcome.{Answers, stop_of};
 ghost use Rattle.hs_rel.specs.Selection.{lesser_of, selected};
 ghost use Rattle.hs_rows.specs.Looks.{Looks};
@@ -12,11 +12,11 @@ use hs_base::TableNo;
 use hs_expression::{Around, Place, RowRef};
 use hs_plan::Expr;
 use hs_rel::EvalStop;
-use hs_rows::{Rows, Takes, scan};
+use hs_rows::{Rows, Takes, copied, scan};
 use hs_stages::Gathered;
 use hs_valued::is_met;
-use hs_values::{EvalFault, Row, RowList};
-use std::alloc::{AllocError, Global};
+use hs_values::{EvalFault, RowList};
+use std::alloc::Global;
 
 /// A condition, and what was gathered of the rows so far.
 #[derive(Drop)]
@@ -33,14 +33,6 @@ fn lesser_of(a: Option<EvalFault>, b: EvalFault) -> EvalFault
     match a {
         None => b,
         Some(a) => a.lesser(b),
-    }
-}
-
-fn copied(row: RowRef<'_>) -> Result<Row, AllocError>
-    ensures { IfOk result (λ copied. copied ≡ row_seen row.entry) }
-{
-    match row {
-        RowRef::Held(row) => row.copy(),
     }
 }
 

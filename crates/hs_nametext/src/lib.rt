@@ -3,7 +3,5 @@
 
 mod bytes;
 mod names;
-#[cfg(test)]
-mod tests;
 
 pub use names::{is_plain, print_name, read_name};

@@ -10,8 +10,6 @@ mod put;
 mod read;
 mod row;
 mod take;
-#[cfg(test)]
-mod tests;
 
 pub use page::Page;
 pub use row::PageRow;

@@ -1,11 +1,12 @@
 // Types and defaults of columns.
-ghost use Rattle.std.specs.Prelude.{◌≡◌, map, Some, IfOk};
-ghost use Rattle.hs_tentative.specs.NewRows.{default_in, default_of as the_default};
+ghost use Rattle.std.specs.Prelude.{◌≡◌, map, IfOk};
+ghost use Rattle.hs_tentative.specs.NewRows.{default_of as the_default};
 ghost use Rattle.hs_references.specs.Referenced as spec;
 
 use hs_base::NoMemory;
+use hs_newrows::default_of;
 use hs_plan::Column;
-use hs_values::{Row, SqlType, Value};
+use hs_values::{Row, SqlType};
 use sqlite_items::Items;
 use std::alloc::Global;
 
@@ -16,25 +17,6 @@ fn type_of(columns: &[Column], place: u32) -> SqlType
     match columns.get(place as usize) {
         Some(column) => column.data_type,
         None => SqlType::Big,
-    }
-}
-
-// The default of the column at a place, from 0: NULL where it has none, and where there is no such column.
-fn default_of(columns: &[Column], place: u32) -> Result<Value, NoMemory>
-    ensures { IfOk result (λ value. value ≡ the_default columns.now place) }
-{
-    match columns.get(place as usize) {
-        Some(column) => own_default(column),
-        None => Ok(Value::Null),
-    }
-}
-
-fn own_default(column: &Column) -> Result<Value, NoMemory>
-    ensures { IfOk result (λ value. value ≡ default_in (Some column.now)) }
-{
-    match &column.default {
-        Some(value) => Ok(value.copy()?),
-        None => Ok(Value::Null),
     }
 }
 

@@ -4,8 +4,6 @@
 mod encoding;
 pub mod laws;
 mod length;
-#[cfg(test)]
-mod tests;
 mod value;
 mod view;
 

@@ -1,4 +1,4 @@
-// Copies of all rows of a table.
+// Copies of rows.
 ghost use Rattle.std.specs.Prelude.{◌≡◌, IfOk};
 ghost use Rattle.std.specs.FinMap.{values};
 ghost use Rattle.hs_expression.specs.Surroundings.{row_seen};
@@ -21,7 +21,8 @@ struct Copies {
     rows: RowList,
 }
 
-fn copied(row: RowRef<'_>) -> Result<Row, AllocError>
+/// A copy of a row that is lent. An `Err` is want of memory.
+pub fn copied(row: RowRef<'_>) -> Result<Row, AllocError>
     ensures { IfOk result (λ copied. copied ≡ row_seen row.entry) }
 {
     match row {

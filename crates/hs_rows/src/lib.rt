@@ -7,7 +7,7 @@ mod rows;
 mod scanning;
 mod takes;
 
-pub use copies::all_rows;
+pub use copies::{all_rows, copied};
 pub use rows::Rows;
 pub use scanning::scan;
 pub use takes::Takes;

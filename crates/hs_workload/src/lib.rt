@@ -3,8 +3,6 @@
 
 mod generated;
 mod summary;
-#[cfg(test)]
-mod tests;
 
 pub use generated::text;
 pub use summary::Summary;

@@ -1,5 +1,5 @@
 // Names, with their text worked out by hand.
-use super::*;
+use hs_nametext::{is_plain, print_name, read_name};
 use hs_values::Chars;
 use std::alloc::Global;
 use std::process::Abort;
@@ -66,6 +66,7 @@ fn is_refused(alloc: Global, text: &str) -> bool {
 fn names_are_written_and_read_back(rt: HostRuntime) -> Result<(), Fail> {
     for (name, text) in &NAMES {
         assert!(rt; agrees(rt.alloc(), name, text)?, "{name}");
+        assert!(rt; is_plain(name) == (text == name), "{name}");
     }
     Ok(())
 }

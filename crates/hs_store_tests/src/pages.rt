@@ -1,8 +1,8 @@
 // A page with known bytes, and which of its one-byte changes are pages.
 ghost use Rattle.std.specs.Prelude.{◌+◌, ◌*◌, ◌^◌, ◌<◌};
 
-use crate::{PAGE_BYTES, Page};
 use hs_base::{RowNo, TableNo};
+use hs_page::{PAGE_BYTES, Page};
 
 // The row (1, 'Bo', NULL) of an INTEGER, a VARCHAR(20) and a BOOLEAN.
 const BO: [u8; 11] = [1, 0, 0, 0, 1, 1, 0, 2, 0x42, 0x6f, 0];

@@ -1,6 +1,6 @@
 // Three pages in two frames.
-use crate::Frames;
 use hs_base::{PageNo, RowNo, TableNo};
+use hs_cache::Frames;
 use hs_page::Page;
 use std::test::Fail;
 

@@ -1,5 +1,5 @@
 // The generated input byte by byte, for 1 and 3 entries, and a line of counts.
-use crate::{Summary, text};
+use hs_workload::{Summary, text};
 use std::alloc::Global;
 use std::test::Fail;
 

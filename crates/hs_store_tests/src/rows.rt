@@ -1,6 +1,6 @@
 // Rows and bytes that another program made: Python's `int.to_bytes`, `str.encode` and `bytes.decode`, from the
 // rules of the format alone. A second function there reads bytes back, and judged each changed byte below.
-use super::*;
+use hs_rowcodec::{RowView, are_storable, encode, encode_onto, encoded_len};
 use hs_values::SqlType::{Big, Bool as Boolean, Date, Decimal, Integer, Small, Stamp, Varchar};
 use hs_values::ValueRef::{Bool, Day, Dec, Int, Micros, Null, Text};
 use hs_values::{Row, SqlType, Types, ValueRef, fits_row};
