@@ -1,0 +1,12 @@
+pub mod Alone
+pub mod Claimed
+pub mod Controlled
+pub mod Ended
+pub mod Fine
+pub mod Kept
+pub mod Lists
+pub mod Models
+pub mod Replay
+pub mod Sound
+pub mod Whole
+pub mod Within

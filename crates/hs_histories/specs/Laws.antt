@@ -1,0 +1,39 @@
+-- What the models of transactions promise.
+use Rattle.std.specs.Prelude.{◌≡◌, ℕ, ◌^◌, ◌<◌, Bool, true, false, List, take, drop}
+use Rattle.std.specs.List.{list_any}
+use Rattle.hs_claims.specs.declared.model.Level.TheVariants.{Ser, Snap}
+use Rattle.hs_claims.specs.Wants.{reads_start_of}
+use Rattle.hs_plan.specs.declared.change.Change.{Change}
+use Rattle.hs_changes.specs.Changes.{is_named}
+use Rattle.hs_database.specs.Database.{Database}
+use Rattle.hs_histories.specs.Each.{Each}
+use Rattle.hs_histories.specs.Language.{Language}
+use Rattle.hs_histories.specs.Transactions.{alone, replay}
+use Rattle.hs_histories.specs.Histories.{Commit, Ended, History, state}
+
+abbrev pub reads_its_start : Ended → Bool
+reads_its_start e = reads_start_of e.kind e.txn.level e.txn.read_only
+
+-- it answers what its statements answer alone on a database, and has the changes that they have there
+abbrev pub IsAlone : Language → Database → Ended → Type 0
+IsAlone lang db e = (e.txn.trace.replies ≡ alone lang e.txn.read_only db e.txn.statements) × (e.txn.trace.changes ≡ (replay lang e.txn.read_only db e.txn.statements).changes)
+
+-- Serial: a transaction at SERIALIZABLE that doesn't read its start is as alone on the commits just before its end
+abbrev pub IsSerial : Language → Database → List Commit → Ended → Type 0
+IsSerial lang opening commits e = reads_its_start e ≡ false → e.txn.level ≡ Ser → IsAlone lang (state opening commits e.at) e
+
+-- Prefix readers and Snapshots: one that reads its start is as alone there
+abbrev pub IsSnapshot : Language → Database → List Commit → Ended → Type 0
+IsSnapshot lang opening commits e = reads_its_start e ≡ true → IsAlone lang (state opening commits e.txn.start) e
+
+-- they put or delete no common row among those that were committed before
+abbrev pub NoCommonRow : List Change → List Change → Type 0
+NoCommonRow xs ys = (table row : ℕ) → row < 2 ^ 63 → list_any (is_named table row) xs ≡ true → list_any (is_named table row) ys ≡ true → ⊥
+
+-- First claimer: one at snapshot isolation changes no row that a commit between its start and its end changes
+abbrev pub IsFirst : List Commit → Ended → Type 0
+IsFirst commits e = e.txn.level ≡ Snap → Each (λ k. NoCommonRow e.txn.trace.changes k.changes) (drop e.txn.start (take e.at commits))
+
+-- each ended transaction of a history is so
+abbrev pub EachEnded : History → (List Commit → Ended → Type 0) → Type 0
+EachEnded h P = Each (P h.commits) h.ended
