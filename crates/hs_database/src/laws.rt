@@ -47,8 +47,8 @@ pub fn numbers_of_inserted_rows_are_new()
     ensures numbered { (db : Database) (changes : List Change) → IsNumbered db → NamesKnown db.count 0 changes → has_room db changes ≡ true → IsNumbered (committed db changes) }
 {}
 
-/// What a commit leaves of each table is what its transaction saw, but for the numbers of the rows that it inserted: each row
-/// that the transaction knows has there what it had for it.
+/// What a commit leaves of each table is what its transaction saw, but for the numbers of the rows that it inserted: each
+/// row that the transaction knows has there what it had for it.
 pub fn what_a_transaction_saw_is_committed()
     ensures { (db : Database) (changes : List Change) (table row : ℕ) → IsNumbered db → NamesKnown db.count 0 changes → IsKnown db.count (count_all_inserted changes) row
         → get ((committed db changes).rows table) (final_row (numbers_from (db.count + 1) changes) row) ≡ get ((view db changes).rows table) row }

@@ -11,8 +11,8 @@ use Rattle.hs_database.specs.Database.{Database, has_room}
 use Rattle.hs_histories.specs.Each.{Each, Across}
 use Rattle.hs_histories.specs.Language.{Language, Laws, IsFine, Stands}
 use Rattle.hs_histories.specs.Transactions.{Statement, settle}
-use Rattle.hs_histories.specs.Histories.{Open, Commit, make, now, state, base}
-use Rattle.hs_histories.specs.Events.{Event, fresh, commit_of, said}
+use Rattle.hs_histories.specs.Histories.{Open, Commit, make, now, state, base, commit_of}
+use Rattle.hs_histories.specs.Events.{Event, fresh, said}
 use Rattle.hs_histories.proofs.Kept.{Changes, Kept, kept_map}
 use Rattle.hs_histories.proofs.Models.{starts}
 use Rattle.hs_histories.proofs.Replay.{nothing_fine, settle_fine}

@@ -3,8 +3,10 @@ pub mod Claimed
 pub mod Controlled
 pub mod Ended
 pub mod Fine
+pub mod Inserting
 pub mod Kept
 pub mod Lists
+pub mod Made
 pub mod Models
 pub mod Replay
 pub mod Sound

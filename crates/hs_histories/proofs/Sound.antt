@@ -17,8 +17,8 @@ use Rattle.hs_database.specs.Database.{Database}
 use Rattle.hs_histories.specs.Each.{Each, Across, EachTwo}
 use Rattle.hs_histories.specs.Language.{Language, Laws, Agree, Stands, references_of}
 use Rattle.hs_histories.specs.Transactions.{Trace, replay}
-use Rattle.hs_histories.specs.Histories.{Open, Commit, make, now, state, held, others, own}
-use Rattle.hs_histories.specs.Events.{Event, fresh, commit_of}
+use Rattle.hs_histories.specs.Histories.{Open, Commit, make, now, state, held, others, own, commit_of}
+use Rattle.hs_histories.specs.Events.{Event, fresh}
 use Rattle.hs_histories.proofs.Kept.{Changes, Kept}
 use Rattle.hs_histories.proofs.Lists.{each_map, each_append, each_true, each_filter}
 use Rattle.hs_histories.proofs.Models.{offered}

@@ -12,14 +12,16 @@ use Rattle.hs_histories.specs.Each.{Each, EachTwo}
 use Rattle.hs_histories.specs.Language.{Language, Laws, Stands}
 use Rattle.hs_histories.specs.Transactions.{Statement}
 use Rattle.hs_histories.specs.Transactions.Statement.{Data, OnSession}
-use Rattle.hs_histories.specs.Histories.{Open, Commit, History, now, state, base, newer, is_free, no_conflict, others, own}
-use Rattle.hs_histories.specs.Events.{Act, Event, fresh, commit_of, finish, stays_open, commit_by, commit, said, judged, says, definition_commit, define_by, define, defines, by_act, step, reached}
+use Rattle.hs_histories.specs.Histories.{Open, Commit, History, now, state, base, newer, is_free, no_conflict, others, own, commit_of}
+use Rattle.hs_histories.specs.Events.{Act, Event, fresh, finish, stays_open, commit_by, commit, said, judged, says, definition_commit, define_by, define, defines, by_act, step, reached}
 use Rattle.hs_histories.specs.Events.Act.{Begins, Says, Commits, Leaves, Defines}
+use Rattle.hs_histories.specs.Laws.{AreMade, IsCommitted}
 use Rattle.hs_histories.proofs.Claimed.{Split, answered, controlled}
-use Rattle.hs_histories.proofs.Ended.{Right, RowsWithin, right_more, right_now}
+use Rattle.hs_histories.proofs.Ended.{Right, RowsWithin, committed_more, last_at, right_more, right_now}
 use Rattle.hs_histories.proofs.Fine.{AllStand, Fine, IsChanged, ready, stands_after, stands_now, others_fine, fresh_fine}
 use Rattle.hs_histories.proofs.Kept.{Changes}
 use Rattle.hs_histories.proofs.Lists.{each_map, each_both, each_append, each_filter, each_true, each_put, two_put, two_filter}
+use Rattle.hs_histories.proofs.Made.{made_by_definition, made_with, made_without}
 use Rattle.hs_histories.proofs.Sound.{Between, Sound, now_more, state_more, own_each, own_two, fresh_sound, fresh_between, others_sound}
 use Rattle.hs_histories.proofs.Within.{names_within, same_control}
 
@@ -29,6 +31,8 @@ module _ (lang : Language) (laws : Laws lang) (opening : Database) where
     pub fine : Each (Fine lang laws h.kind opening h.commits) h.open_
     pub two : EachTwo (Between h.kind) h.open_
     pub ended : Each (Right lang opening h.commits) h.ended
+    pub committed : Each (IsCommitted h.commits) h.ended
+    pub made : AreMade h.commits h.ended
     pub within : Each RowsWithin h.commits
     pub stands : AllStand lang opening h.commits
     pub model : h.kind ≡ (now opening h.commits).control
@@ -56,6 +60,8 @@ module _ (lang : Language) (laws : Laws lang) (opening : Database) where
     fine = each_put (Fine lang laws h.kind opening h.commits) who o s.own_fine h.open_ s.others_fine;
     two = two_put (Between h.kind) who o h.open_ s.between s.two;
     ended = w.ended;
+    committed = w.committed;
+    made = w.made;
     within = w.within;
     stands = w.stands;
     model = w.model;
@@ -66,7 +72,9 @@ module _ (lang : Language) (laws : Laws lang) (opening : Database) where
     each = s.others;
     fine = s.others_fine;
     two = s.two;
-    ended = (right_now lang opening h.kind h.commits o s.own w.within, w.ended);
+    ended = (right_now lang opening false h.kind h.commits o s.own w.within, w.ended);
+    committed = (λ never. absurd cc, w.committed);
+    made = made_without h.commits h.ended (record { txn = o; kind = h.kind; at = length h.commits; kept = false }) w.made;
     within = w.within;
     stands = w.stands;
     model = w.model;
@@ -87,7 +95,9 @@ module _ (lang : Language) (laws : Laws lang) (opening : Database) where
             (λ u b f. others_fine lang laws h.kind opening h.commits o u before fine room b.1.1.clear b.0.started f) rest known s.others_fine;
         two = s.two;
         ended = each_map (Right lang opening h.commits) (Right lang opening (h.commits ++ k ∷ [])) (right_more lang opening h.commits (k ∷ []))
-            (record { txn = o; kind = h.kind; at = length h.commits } ∷ h.ended) (right_now lang opening h.kind h.commits o s.own w.within, w.ended);
+            (record { txn = o; kind = h.kind; at = length h.commits; kept = true } ∷ h.ended) (right_now lang opening true h.kind h.commits o s.own w.within, w.ended);
+        committed = (λ kept. last_at k h.commits, each_map (IsCommitted h.commits) (IsCommitted (h.commits ++ k ∷ [])) (committed_more h.commits (k ∷ [])) h.ended w.committed);
+        made = made_with h.commits h.ended (record { txn = o; kind = h.kind; at = length h.commits; kept = true }) refl refl w.made;
         within = each_append RowsWithin h.commits (k ∷ []) w.within (names_within o.trace.feet o.trace.changes s.own.within.stands, tt);
         stands = stands_more h.commits k w.stands after;
         model = w.model ∙ sym (ap (λ (d : Database). d.control) (now_more opening h.commits k) ∙ same_control (now opening h.commits) o.trace.feet o.trace.changes s.own.within.stands);
@@ -138,6 +148,8 @@ module _ (lang : Language) (laws : Laws lang) (opening : Database) where
         fine = subst (Each (Fine lang laws kind opening (h.commits ++ k ∷ []))) (sym none) tt;
         two = subst (EachTwo (Between kind)) (sym none) tt;
         ended = each_map (Right lang opening h.commits) (Right lang opening (h.commits ++ k ∷ [])) (right_more lang opening h.commits (k ∷ [])) h.ended w.ended;
+        committed = each_map (IsCommitted h.commits) (IsCommitted (h.commits ++ k ∷ [])) (committed_more h.commits (k ∷ [])) h.ended w.committed;
+        made = made_by_definition h.commits h.ended k refl w.made;
         within = each_append RowsWithin h.commits (k ∷ []) w.within (λ t r old at. absurd cc, tt);
         stands = stands_more h.commits k w.stands after;
         model = ap (control_after d) w.model ∙ sym (ap (λ (e : Database). e.control) more);
@@ -184,6 +196,8 @@ module _ (lang : Language) (laws : Laws lang) (opening : Database) where
     fine = tt;
     two = tt;
     ended = tt;
+    committed = tt;
+    made = λ k commit at. absurd cc;
     within = tt;
     stands = λ k. subst (λ (cs : List Commit). Stands lang (now opening cs)) (sym (take_all k [] (omega arith))) v;
     model = refl;

@@ -14,7 +14,7 @@ use Rattle.hs_database.specs.Definitions.{control_after}
 use Rattle.hs_histories.specs.Language.{Language}
 use Rattle.hs_histories.specs.Transactions.{Statement, nothing, settle}
 use Rattle.hs_histories.specs.Transactions.Statement.{Data, OnSession}
-use Rattle.hs_histories.specs.Histories.{Open, Commit, History, now, base, newer, is_free, no_conflict, others, own, put_open}
+use Rattle.hs_histories.specs.Histories.{commit_of, Open, Commit, History, now, base, newer, is_free, no_conflict, others, own, put_open}
 
 -- START TRANSACTION; an attempt of a statement; COMMIT; ROLLBACK, and refusals that end a transaction; an attempt of a
 -- definition
@@ -41,15 +41,12 @@ fresh kind e n = record { session = e.session; level = level_of kind e.isolation
 
 -- ---- ends
 
-abbrev pub commit_of : Open → Commit
-commit_of o = record { session = o.session; level = o.level; read_only = o.read_only; changes = o.trace.changes; feet = o.trace.feet }
-
 -- a transaction ends, and its changes are committed or dropped
 abbrev pub finish : Bool → Open → ℕ → History → History
 finish keep o who h = record h {
   commits = if keep then h.commits ++ commit_of o ∷ [] else h.commits;
   open_ = others who h.open_;
-  ended = record { txn = o; kind = h.kind; at = length h.commits } ∷ h.ended;
+  ended = record { txn = o; kind = h.kind; at = length h.commits; kept = keep } ∷ h.ended;
 }
 
 abbrev pub stays_open : Open → ℕ → History → History

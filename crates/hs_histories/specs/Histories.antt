@@ -32,11 +32,12 @@ pub record Commit : Type 0 where
   pub changes : List Change
   pub feet : List Footprint
 
--- an ended transaction, its model, and how many commits there were just before its end
+-- an ended transaction, its model, how many commits there were just before its end, and whether it is the next one
 pub record Ended : Type 0 where
   pub txn : Open
   pub kind : ControlKind
   pub at : ℕ
+  pub kept : Bool
 
 -- the model, the commits, the open transactions, and those that have ended, the last one first
 pub record History : Type 0 where
@@ -46,6 +47,9 @@ pub record History : Type 0 where
   pub ended : List Ended
 
 -- ---- commits
+
+abbrev pub commit_of : Open → Commit
+commit_of o = record { session = o.session; level = o.level; read_only = o.read_only; changes = o.trace.changes; feet = o.trace.feet }
 
 abbrev pub make : Database → Commit → Database
 make db commit = committed db commit.changes

@@ -5,3 +5,4 @@ pub mod Histories
 pub mod Events
 pub mod Laws
 pub mod Alone
+pub mod Inserting

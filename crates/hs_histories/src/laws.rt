@@ -11,19 +11,32 @@ ghost use Rattle.hs_database.specs.Database.{Database, state as database_state};
 ghost use Rattle.hs_histories.specs.Alone.{attempts, only};
 ghost use Rattle.hs_histories.specs.Events.{Event, fresh, reached};
 ghost use Rattle.hs_histories.specs.Histories.{Commit, held, now, session_commit, state};
+ghost use Rattle.hs_histories.specs.Inserting.{table_one};
 ghost use Rattle.hs_histories.specs.Language.{Language, Laws, Stands};
-ghost use Rattle.hs_histories.specs.Laws.{EachEnded, IsFirst, IsSerial, IsSnapshot};
+ghost use Rattle.hs_histories.specs.Laws.{AreMade, EachEnded, IsCommitted, IsFirst, IsInOrder, IsSerial, IsSnapshot};
 ghost use Rattle.hs_histories.specs.Transactions.{Statement, nothing, replay, session_in, with_session};
+ghost use Rattle.hs_plan.specs.declared.change.Change.TheVariants as change;
+ghost use Rattle.hs_schema.specs.Catalogue.{Text};
 ghost use Rattle.hs_sessions.specs.declared.control.Control.{Control};
 ghost use Rattle.hs_sessions.specs.declared.session.Session.{Session};
 ghost use Rattle.hs_sessions.specs.declared.session.Transaction.{Transaction};
 ghost use Rattle.hs_sessions.specs.Settings.{controlled};
 
 /// Serial: a transaction at SERIALIZABLE that doesn't read its start, as any under LOCKS and those that may write under
-/// MVLOCKS, answers as if it ran alone on the commits just before its end, and changes the same. So transactions that commit
-/// answer as if they were run one at a time, in the order of their commits.
+/// MVLOCKS, answers as if it ran alone on the commits just before its end, and changes the same. So transactions that
+/// commit answer as if they were run one at a time, in the order of their commits.
 pub fn serializable_transactions_answer_in_the_order_of_their_commits()
     ensures { (lang : Language) (opening : Database) (events : List Event) → Laws lang → Stands lang opening → EachEnded (reached lang opening events) (IsSerial lang opening) }
+{}
+
+/// One at a time: where such a transaction was committed, its changes are the next commit, and the state behind that is
+/// what its statements make of the state before it, alone there. Each commit is of an ended transaction, or a definition's.
+/// So where all transactions are serializable ones, the states are those of running them one at a time, in the order of
+/// their commits.
+pub fn serializable_transactions_are_as_run_one_at_a_time()
+    ensures committed { (lang : Language) (opening : Database) (events : List Event) → Laws lang → Stands lang opening → EachEnded (reached lang opening events) IsCommitted }
+    ensures made { (lang : Language) (opening : Database) (events : List Event) → Laws lang → Stands lang opening → AreMade (reached lang opening events).commits (reached lang opening events).ended }
+    ensures in_order { (lang : Language) (opening : Database) (events : List Event) → Laws lang → Stands lang opening → EachEnded (reached lang opening events) (IsInOrder lang opening) }
 {}
 
 /// Prefix readers and Snapshots: a transaction that reads its start, as one that is read-only under MVLOCKS and one at
@@ -66,8 +79,13 @@ pub fn states_are_those_of_the_commits()
     ensures { (kind : ControlKind) (opening : Database) (commits : List Commit) (k : ℕ) → state opening commits k ≡ database_state opening (map (session_commit kind) commits) k }
 {}
 
-/// A definition wants the catalogue exclusive, which goes together with nothing that an open transaction holds: so it waits for
-/// every open transaction.
+/// A definition wants the catalogue exclusive, which doesn't go together with what an open transaction holds. So it waits
+/// for every open transaction.
 pub fn definitions_wait_for_every_open_transaction()
     ensures { (kind : ControlKind) (level : Level) (read_only : Bool) (feet : List Footprint) → fits (catalog_claim true ∷ []) (held kind level read_only feet) ≡ false }
+{}
+
+/// The laws can be met, by a language whose one statement inserts a row.
+pub fn the_laws_can_be_met()
+    ensures { (lang : Language) × Laws lang × ((db : Database) (text : Text) → (lang.outcome false db text).changes ≡ change.Insert table_one [] ∷ []) }
 {}
