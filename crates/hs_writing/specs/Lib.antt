@@ -1,0 +1,4 @@
+pub mod Answers
+pub mod Statements
+pub mod Targets
+pub mod Values
