@@ -1,10 +1,9 @@
 // Reads the items of the input.
-ghost use Rattle.std.specs.Prelude.{◌≡◌, ◌⊎◌, true, false, ℕ, ◌+◌, ◌-◌, ◌<◌, ◌≤◌, ◌^◌, List, [], ◌++◌, length, None, Some, IfOk, IfErr, IfSome, IfNone, OnOk, OnErr, IsErrOf, MatchOption, MatchResult};
+ghost use Rattle.std.specs.Prelude.{◌≡◌, ◌⊎◌, true, false, ℕ, ◌+◌, ◌-◌, ◌<◌, ◌≤◌, ◌^◌, List, [], ◌++◌, length, None, Some, IfOk, IfSome, IfNone, OnOk, OnErr, IsErrOf, MatchOption, MatchResult};
 ghost use Rattle.std.proofs.Props.{props};
-ghost use Rattle.hs_host.specs.Host.{Rose};
 ghost use Rattle.hs_entries.specs.Place.{is_entry};
 ghost use Rattle.hs_entries.specs.Left.{IsBeyond, IsNumbered, Takes};
-ghost use Rattle.hs_entries.specs.Calls.{UsesSource, ReadFails};
+ghost use Rattle.hs_entries.specs.Calls.{UsesSource, HasInputCause, ReadsWith};
 ghost use Rattle.hs_entries.specs.Asking.{Asks, Asked, NeedsMore};
 ghost use Rattle.hs_entries.specs.Window.{IsSound, IsAtEnd, IsFresh, ahead_of, left_of, begun_of, room_of};
 
@@ -86,7 +85,7 @@ impl EntryReader {
     ///
     /// `Fault` comes only where a read of the source failed in this call. `TooLong` comes exactly where the
     /// next item isn't whole, up to its `;`, within the limit, the input has more, and no read of this call
-    /// fails first. `NoMemory` is free.
+    /// fails first. `NoMemory` is free, but it is never the answer where a read failed.
     pub fn next<S: Source>(&mut self, source: &mut S) -> Result<Item, InputFault>
         // The items are those of the bytes at hand and then, until the input has ended, those that the source has left.
         ensures items { S.tells → IfOk result (λ item. TakesItem self.old (S.unread source.old) item self.new (S.unread source.new)) }
@@ -97,7 +96,7 @@ impl EntryReader {
         // Faults, and what is kept of them.
         ensures too_long { S.tells → kept self.old ≡ None → IsErrOf result InputFault.TooLong → IsBeyond (left self.old (S.unread source.old)) }
         ensures beyond { kept self.old ≡ None → IsErrOf result InputFault.TooLong → room self.new < length (ahead self.new) }
-        ensures fault { kept self.old ≡ None → IsErrOf result InputFault.Fault → Rose (S.input_faults source.old) (S.input_faults source.new) }
+        ensures cause { kept self.old ≡ None → HasInputCause (S.input_faults source.old) (S.input_faults source.new) result }
         ensures kept { MatchResult result (λ _. (kept self.old ≡ None) × (kept self.new ≡ None)) (λ fault. kept self.new ≡ Some fault) }
         ensures again { IfSome (kept self.old) (λ fault. (result ≡ Err fault) × (self.new ≡ self.old)) }
 
@@ -126,7 +125,7 @@ impl EntryReader {
         ensures counts { IfOk result (λ item. Counts self.old item self.new) }
         ensures beyond { S.tells → IsErrOf result InputFault.TooLong → IsBeyond (left_over self.old (S.unread source.old)) }
         ensures past { IsErrOf result InputFault.TooLong → room self.new < length (ahead self.new) }
-        ensures fault { IsErrOf result InputFault.Fault → Rose (S.input_faults source.old) (S.input_faults source.new) }
+        ensures cause { HasInputCause (S.input_faults source.old) (S.input_faults source.new) result }
         ensures ready { is_at_hand self.old ≡ true → source.new ≡ source.old }
         ensures needed { MatchResult result (λ _. Asks S.reads (λ more. NeedsMore (left_over self.old more)) self.new.has_ended source.old source.new) (λ _. Asks S.reads (λ more. NeedsMore (left_over self.old more)) true source.old source.new) }
         ensures agrees { S.tells → AgreesWith self.new (S.unread source.new) }
@@ -170,7 +169,7 @@ impl EntryReader {
         ensures goes_on { IfOk result (λ item. GoesOn self.old item self.new) }
         ensures beyond { S.tells → IsErrOf result InputFault.TooLong → IsBeyond (left_over self.old (S.unread source.old)) }
         ensures past { IsErrOf result InputFault.TooLong → room self.new < length (ahead self.new) }
-        ensures fault { IsErrOf result InputFault.Fault → Rose (S.input_faults source.old) (S.input_faults source.new) }
+        ensures cause { HasInputCause (S.input_faults source.old) (S.input_faults source.new) result }
         ensures kept { self.new.kept ≡ self.old.kept }
         ensures asked { Asked S.reads (left_over self.old) (left_over self.new) self.new.has_ended result source.old source.new }
         ensures agrees { S.tells → AgreesWith self.new (S.unread source.new) }
@@ -196,7 +195,7 @@ impl EntryReader {
         ensures room { room self.new ≤ room self.old }
         ensures one { OnOk result (S.reads source.old source.new (left_of self.new.window)) }
         ensures err { OnErr result ((source.new ≡ source.old) ⊎ S.reads source.old source.new []) }
-        ensures fails { IfErr result (ReadFails S.Source source.old source.new) }
+        ensures fails { ReadsWith (S.input_faults source.old) (S.input_faults source.new) result }
         ensures uses { UsesSource S.Source source.old source.new }
     {
         let more = self.window.refill(source)?;
@@ -229,7 +228,7 @@ impl EntryReader {
         ensures goes_on { IfOk result (λ item. GoesOn self.old item self.new) }
         ensures beyond { S.tells → IsErrOf result InputFault.TooLong → IsBeyond (left_over self.old (S.unread source.old)) }
         ensures past { IsErrOf result InputFault.TooLong → room self.new < length (ahead self.new) }
-        ensures fault { IsErrOf result InputFault.Fault → Rose (S.input_faults source.old) (S.input_faults source.new) }
+        ensures cause { HasInputCause (S.input_faults source.old) (S.input_faults source.new) result }
         ensures kept { self.new.kept ≡ self.old.kept }
         ensures asked { Asked S.reads (left_over self.old) (left_over self.new) self.new.has_ended result source.old source.new }
         ensures agrees { S.tells → AgreesWith self.new (S.unread source.new) }
@@ -258,7 +257,7 @@ impl EntryReader {
         ensures passes { IfOk result (λ item. Passes self.old item self.new) }
         ensures beyond { S.tells → IsErrOf result InputFault.TooLong → IsBeyond (left_within self.old from (S.unread source.old)) }
         ensures past { IsErrOf result InputFault.TooLong → room self.new < length (ahead self.new) }
-        ensures fault { IsErrOf result InputFault.Fault → Rose (S.input_faults source.old) (S.input_faults source.new) }
+        ensures cause { HasInputCause (S.input_faults source.old) (S.input_faults source.new) result }
         ensures kept { self.new.kept ≡ self.old.kept }
         ensures asked { Asked S.reads (left_within self.old from) (left_over self.new) self.new.has_ended result source.old source.new }
         ensures agrees { S.tells → AgreesWith self.new (S.unread source.new) }

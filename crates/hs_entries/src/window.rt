@@ -1,8 +1,8 @@
 // The bytes at hand.
-ghost use Rattle.std.specs.Prelude.{◌≡◌, ◌↔◌, ◌⊎◌, ◌+◌, ◌-◌, ◌<◌, ◌≤◌, false, [], ◌∷◌, ◌++◌, length, take, drop, slice_index, slice_range, Some, IfOk, IfErr, OnOk, OnErr, IsTrue};
+ghost use Rattle.std.specs.Prelude.{◌≡◌, ◌↔◌, ◌⊎◌, ◌+◌, ◌-◌, ◌<◌, ◌≤◌, false, [], ◌∷◌, ◌++◌, length, take, drop, slice_index, slice_range, Some, IfOk, OnOk, OnErr, IsTrue};
 ghost use Rattle.hs_entries.specs.Place.{leads, passes, ends, next_place};
 ghost use Rattle.hs_entries.specs.Entry.{is_too_long as too_long};
-ghost use Rattle.hs_entries.specs.Calls.{UsesSource, ReadFails};
+ghost use Rattle.hs_entries.specs.Calls.{UsesSource, ReadsWith};
 
 use crate::input_fault::InputFault;
 use crate::item::MOST_BYTES;
@@ -230,7 +230,7 @@ impl Window {
         ensures bytes { S.tells → IfOk result (λ more. GetsBytes (S.unread source.old) more (left_of self.new) (S.unread source.new)) }
         ensures one { OnOk result (S.reads source.old source.new (left_of self.new)) }
         ensures err { OnErr result ((source.new ≡ source.old) ⊎ S.reads source.old source.new []) }
-        ensures fails { IfErr result (ReadFails S.Source source.old source.new) }
+        ensures fails { ReadsWith (S.input_faults source.old) (S.input_faults source.new) result }
         ensures uses { UsesSource S.Source source.old source.new }
     {
         self.make_room()?;

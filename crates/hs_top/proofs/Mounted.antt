@@ -12,7 +12,12 @@ use Rattle.hs_top.specs.declared.stop.Stop.{Stop}
 use Rattle.hs_top.specs.declared.stop.Stop.TheVariants.{Input, Output, Disk, NoMemory, Damaged, TooLong}
 use Rattle.hs_top.specs.Crash.{IsSafe, IsKept, IsLater, Survives}
 use Rattle.hs_top.specs.Opening.{Opened}
-use Rattle.hs_top.specs.Stop.{OpenStops, RunStops}
+use Rattle.hs_top.specs.declared.damage.Damage.TheVariants.{Foreign, Log as LogDamage}
+use Rattle.hs_top.specs.declared.status.Status.{Status}
+use Rattle.hs_top.specs.declared.status.Status.TheVariants.{Done, Usage, InputFault, OutputFault, DiskFault, NoMemory as NoMemoryStatus, Damaged as Damage, InputTooLong}
+use Rattle.hs_top.specs.Mounting.{MountStops}
+use Rattle.hs_top.specs.Status.{status_of}
+use Rattle.hs_top.specs.Stop.{NoFaults, OpenStops, RunStops}
 
 module _ (files mounted : Five (List ℕ)) (opened : Opened) (input unread before written : List ℕ) (same_files : mounted ≡ files) (same_input : unread ≡ input) (same_out : written ≡ before) where
   pub kept_before : (h now e : History) → now ≡ h → Since (IsKept mounted opened unread written now.now) now e → Since (IsKept files opened input before h.now) h e
@@ -61,3 +66,31 @@ module _ {H : Type 0} (s : source.Ghosts H) (g : host.Ghosts H) where
   opening_ends Input a b right opened ok stops damaged disk = absurd stops
   opening_ends Output a b right opened ok stops damaged disk = absurd stops
   opening_ends TooLong a b right opened ok stops damaged disk = absurd stops
+
+  -- what is told as no fault of a device is told where none failed
+  pub mount_calm : (status : Status) (a b : H) → MountStops s g a b status → (status ≡ DiskFault → ⊥) → NoFaults s g a b
+  mount_calm (Damage Foreign) a b stops disk = stops.1
+  mount_calm (Damage (LogDamage group)) a b stops disk = absurd stops
+  mount_calm NoMemoryStatus a b stops disk = stops
+  mount_calm DiskFault a b stops disk = absurd (disk refl)
+  mount_calm Done a b stops disk = absurd stops
+  mount_calm Usage a b stops disk = absurd stops
+  mount_calm InputFault a b stops disk = absurd stops
+  mount_calm OutputFault a b stops disk = absurd stops
+  mount_calm InputTooLong a b stops disk = absurd stops
+
+  pub open_calm : (stop : Stop) (status : Status) (a b : H) → status ≡ status_of stop → OpenStops s g a b stop → (status ≡ DiskFault → ⊥) → NoFaults s g a b
+  open_calm Disk status a b is stops disk = absurd (disk is)
+  open_calm NoMemory status a b is stops disk = stops
+  open_calm (Damaged group) status a b is stops disk = stops
+  open_calm Input status a b is stops disk = absurd stops
+  open_calm Output status a b is stops disk = absurd stops
+  open_calm TooLong status a b is stops disk = absurd stops
+
+  pub work_calm : (stop : Stop) (status : Status) (a b : H) → status ≡ status_of stop → RunStops s g a b stop → (status ≡ InputFault → ⊥) → (status ≡ OutputFault → ⊥) → (status ≡ DiskFault → ⊥) → NoFaults s g a b
+  work_calm Input status a b is stops input output disk = absurd (input is)
+  work_calm Output status a b is stops input output disk = absurd (output is)
+  work_calm Disk status a b is stops input output disk = absurd (disk is)
+  work_calm NoMemory status a b is stops input output disk = stops
+  work_calm TooLong status a b is stops input output disk = stops
+  work_calm (Damaged group) status a b is stops input output disk = absurd stops

@@ -1,6 +1,6 @@
 -- What is used by one part of a run and then by another, and what stops it.
-use Rattle.std.proofs.Common.{◌≡◌, ℕ, List, Result, Err, refl, sym, ap, subst, ◌∙◌, arith}
-use Rattle.std.specs.Prelude.{IfErr}
+use Rattle.std.proofs.Common.{◌≡◌, ℕ, List, Result, refl, sym, ap, subst, ◌∙◌, arith}
+use Rattle.std.specs.Prelude.{MatchResult}
 use Rattle.hs_host.specs.declared.source.Source as source
 use Rattle.hs_host.specs.declared.host.Host as host
 use Rattle.hs_host.specs.declared.file_kind.FileKind.TheVariants.{Log}
@@ -13,10 +13,10 @@ use Rattle.hs_top.specs.declared.stop.Stop.{Stop}
 use Rattle.hs_top.specs.Crash.{IsLater}
 use Rattle.hs_top.specs.Holding.{IsHandedOver}
 use Rattle.hs_top.specs.Running.{OnlyLog}
-use Rattle.hs_top.specs.Stop.{OutputStops, DiskStops, WorkStops}
+use Rattle.hs_top.specs.Stop.{NoFaults, OutputStops, DiskStops, WorkStops}
 use Rattle.hs_top.specs.Used.{UsesWork, UsesStreams, UsesLog, HandsOver, Works}
 use Rattle.hs_top.proofs.Alone.{alone_printing, alone_on}
-use Rattle.hs_top.proofs.Stops.{stops_for, output_work, disk_work, work_handed}
+use Rattle.hs_top.proofs.Stops.{both_ways, stops_for, no_faults, calm_on, output_work, disk_work}
 
 -- files and output, and output behind that
 pub work_output : {H : Type 0} {s : source.Ghosts H} {g : host.Ghosts H} {a b c : H} → UsesWork s g a b → UsesOutput s g b c → UsesWork s g a c
@@ -55,32 +55,28 @@ disk_alone {H} {s} {g} {a} {b} ab others = record {
 pub only_log : (old new : Five (List ℕ)) → new ≡ old → OnlyLog old new
 only_log old new same = subst (λ (f : Five (List ℕ)). OnlyLog old f) (sym same) refl
 
--- output, behind what was used
-pub hands_work : {T H : Type 0} {s : source.Ghosts H} {g : host.Ghosts H} {a b c : H} {result : Result T Stop} → UsesWork s g a b → HandsOver s g b c result → Works s g a c result
-hands_work {T} {H} {s} {g} {a} {b} {c} {result} ab bc = record {
+-- output, behind what was used where no device failed
+pub hands_work : {T H : Type 0} {s : source.Ghosts H} {g : host.Ghosts H} {a b c : H} (result : Result T Stop) → UsesWork s g a b → NoFaults s g a b → HandsOver s g b c result → Works s g a c result
+hands_work {T} {H} {s} {g} {a} {b} {c} result ab calm bc = record {
   uses = work_output ab bc.uses;
-  stops = stops_for (OutputStops s g b c) (WorkStops s g a c) result (λ stop. output_work s g stop a b c c ab.output_later (omega arith)) bc.stops;
+  calm = calm_on a b c result calm bc.calm;
+  stops = stops_for (OutputStops s g b c) (WorkStops s g a c) result (λ stop. output_work s g stop a b c calm) bc.stops;
 }
 
 -- output alone
-pub hands_alone : {T H : Type 0} {s : source.Ghosts H} {g : host.Ghosts H} {a b : H} {result : Result T Stop} → HandsOver s g a b result → Works s g a b result
-hands_alone {T} {H} {s} {g} {a} {b} {result} ab = record {
+pub hands_alone : {T H : Type 0} {s : source.Ghosts H} {g : host.Ghosts H} {a b : H} (result : Result T Stop) → HandsOver s g a b result → Works s g a b result
+hands_alone {T} {H} {s} {g} {a} {b} result ab = record {
   uses = output_alone ab.uses;
-  stops = stops_for (OutputStops s g a b) (WorkStops s g a b) result (λ stop. output_work s g stop a a b b (omega arith) (omega arith)) ab.stops;
+  calm = ab.calm;
+  stops = stops_for (OutputStops s g a b) (WorkStops s g a b) result (λ stop. output_work s g stop a a b (no_faults a)) ab.stops;
 }
 
 -- the log alone
-pub logs_alone : {T H : Type 0} {s : source.Ghosts H} {g : host.Ghosts H} {P : Moment → Type 0} {a b : H} (result : Result T Stop) → Moves s g Log P a b → IfErr result (DiskStops s g a b) → Works s g a b result
-logs_alone {T} {H} {s} {g} {P} {a} {b} result ab stops = record {
+pub logs_alone : {T H : Type 0} {s : source.Ghosts H} {g : host.Ghosts H} {P : Moment → Type 0} {a b : H} (result : Result T Stop) → Moves s g Log P a b → MatchResult result (λ _. NoFaults s g a b) (DiskStops s g a b) → Works s g a b result
+logs_alone {T} {H} {s} {g} {P} {a} {b} result ab ends = let (calm, stops) = both_ways (NoFaults s g a b) (DiskStops s g a b) result ends in record {
   uses = disk_alone ab.uses ab.others;
-  stops = stops_for (DiskStops s g a b) (WorkStops s g a b) result (λ stop. disk_work s g stop a a b b (omega arith) (omega arith)) stops;
-}
-
--- output that is handed over where a part stopped
-pub work_stopped : {T U H : Type 0} {s : source.Ghosts H} {g : host.Ghosts H} {a b c : H} (stop : Stop) → Works {T = T} s g a b (Err stop) → UsesOutput s g b c → Works {T = U} s g a c (Err stop)
-work_stopped {T} {U} {H} {s} {g} {a} {b} {c} stop ab bc = record {
-  uses = work_output ab.uses bc;
-  stops = work_handed s g stop a b c bc.output_later bc.disk_faults ab.stops;
+  calm = calm;
+  stops = stops_for (DiskStops s g a b) (WorkStops s g a b) result (λ stop. disk_work s g stop a b) stops;
 }
 
 -- all of the outside, and of the files the log alone

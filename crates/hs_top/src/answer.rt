@@ -1,5 +1,5 @@
 // Answers one item.
-ghost use Rattle.std.specs.Prelude.{◌≡◌, ◌⊎◌, ℕ, List, [], ◌++◌, Some, OnOk, OnErr, IfErr, map};
+ghost use Rattle.std.specs.Prelude.{◌≡◌, ◌⊎◌, ℕ, List, [], ◌++◌, Some, OnOk, OnErr, MatchResult, map};
 ghost use Rattle.hs_host.specs.Moments.{Since};
 ghost use Rattle.hs_host.specs.Used.{Told, Moves, UsesOutput};
 ghost use Rattle.hs_log.specs.Log.{last_in};
@@ -14,7 +14,7 @@ ghost use Rattle.hs_top.specs.Database.{performed, executed};
 ghost use Rattle.hs_top.specs.Holding.{IsHandedOver, IsHeld, IsLogging, IsStep, IsAcknowledging, LeavesFront};
 ghost use Rattle.hs_top.specs.Machine.{WritesPrefix, step_of, logged, last_after, if_commit, commits_after};
 ghost use Rattle.hs_top.specs.Running.{Stands, state_of, texts_in};
-ghost use Rattle.hs_top.specs.Stop.{DiskStops};
+ghost use Rattle.hs_top.specs.Stop.{NoFaults, DiskStops, WorkStops};
 ghost use Rattle.hs_top.specs.Used.{HandsOver, Works};
 
 use crate::commit_text::write_commit;
@@ -54,21 +54,27 @@ pub fn answer<H: Host>(
 {
     match perform(alloc, item, work, output, host) {
         Ok(()) => flush_when_large(output, host),
-        Err(stop) => {
-            hand_over(output, host);
-            Err(stop)
-        }
+        Err(stop) => Err(hand_over(stop, output, host)),
     }
 }
 
-// Hands over what is gathered before a run ends, as far as the host takes it.
+// Hands over what is gathered before a run ends, as far as the host takes it, and answers why the run ends: where memory was
+// wanted and now the output fails, that fault is told.
 #[tactic(auto, using(crate::proofs::Prefixes::nothing_yet, hs_host::proofs::Passing::since_none))]
-fn hand_over<H: Host>(output: &mut Output, host: &mut H)
+fn hand_over<H: Host>(stop: Stop, output: &mut Output, host: &mut H) -> Stop
     ensures front { H.tells → WritesPrefix (H.written host.old) (H.written host.new) output.old }
     ensures moments { H.tells → Since (IsHandedOver (H.history host.old).now output.old) (H.history host.old) (H.history host.new) }
     ensures uses { UsesOutput H.Source H.Host.own host.old host.new }
+    ensures stops { (first : H) → WorkStops H.Source H.Host.own first host.old stop → WorkStops H.Source H.Host.own first host.new result }
 {
-    let _ = flush(output, host);
+    let handed = flush(output, host);
+    match stop {
+        Stop::NoMemory => match handed {
+            Ok(()) => Stop::NoMemory,
+            Err(fault) => fault,
+        },
+        _ => stop,
+    }
 }
 
 // Does what an item asks for, and gathers its lines.
@@ -220,7 +226,7 @@ fn change<H: Host>(
     ensures lines { OnOk result (output.new ≡ output.old ++ printed (reply_lines number name.now (executed database.old statement).reply)) }
     ensures unsaid { OnErr result (output.new ≡ output.old) }
     ensures moves { Moves H.Source H.Host.own FileKind.Log (IsLogging (H.history host.old).now (texts_in (H.files host.old)) (logged (last_in log.old) session (Some statement) (executed database.old statement).reply)) host.old host.new }
-    ensures stops { IfErr result (DiskStops H.Source H.Host.own host.old host.new) }
+    ensures stops { MatchResult result (λ _. NoFaults H.Source H.Host.own host.old host.new) (DiskStops H.Source H.Host.own host.old host.new) }
 {
     write_commit(alloc, text, log.last(), session, &statement)?;
     let size = log.size();
@@ -248,7 +254,7 @@ fn log_commit<H: Host>(
     ensures stands { (n : ℕ) → Stands H.Source H.Host.own log.old n host.old → OnOk result (Stands H.Source H.Host.own log.new (commits_after n reply.now) host.new) }
     ensures texts { Told H.Source H.Host.own host.old → OnOk result (texts_in (H.files host.new) ≡ texts_in (H.files host.old) ++ if_commit reply.now text.now) }
     ensures moves { Moves H.Source H.Host.own FileKind.Log (IsLogging (H.history host.old).now (texts_in (H.files host.old)) (if_commit reply.now text.now)) host.old host.new }
-    ensures stops { IfErr result (DiskStops H.Source H.Host.own host.old host.new) }
+    ensures stops { MatchResult result (λ _. NoFaults H.Source H.Host.own host.old host.new) (DiskStops H.Source H.Host.own host.old host.new) }
 {
     if !reply.is_commit() {
         return Ok(());

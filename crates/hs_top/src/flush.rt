@@ -1,5 +1,5 @@
 // Hands output over to the host.
-ghost use Rattle.std.specs.Prelude.{◌≡◌, ◌<◌, ◌≤◌, [], ◌++◌, length, OnOk, OnErr, IfErr, MatchResult};
+ghost use Rattle.std.specs.Prelude.{◌≡◌, ◌<◌, ◌≤◌, [], ◌++◌, length, OnOk, OnErr};
 ghost use Rattle.hs_host.specs.Moments.{Since};
 ghost use Rattle.hs_top.specs.Holding.{IsHandedOver};
 ghost use Rattle.hs_top.specs.Machine.{WritesPrefix};
@@ -19,7 +19,6 @@ pub fn flush<H: Host>(output: &mut Output, host: &mut H) -> Result<(), Stop>
     ensures front { H.tells → WritesPrefix (H.written host.old) (H.written host.new) output.old }
     ensures moments { H.tells → Since (IsHandedOver (H.history host.old).now output.old) (H.history host.old) (H.history host.new) }
     ensures ends { HandsOver H.Source H.Host.own host.old host.new result }
-    ensures calm { MatchResult result (λ _. H.output_faults host.new ≡ H.output_faults host.old) (λ stop. stop ≡ Stop.NoMemory → H.output_faults host.new ≡ H.output_faults host.old) }
 {
     let result = write_all(host, output.as_bytes());
     output.clear();
@@ -36,7 +35,6 @@ pub fn flush_when_large<H: Host>(output: &mut Output, host: &mut H) -> Result<()
     ensures front { H.tells → WritesPrefix (H.written host.old) (H.written host.new) output.old }
     ensures moments { H.tells → Since (IsHandedOver (H.history host.old).now output.old) (H.history host.old) (H.history host.new) }
     ensures ends { HandsOver H.Source H.Host.own host.old host.new result }
-    ensures calm { MatchResult result (λ _. H.output_faults host.new ≡ H.output_faults host.old) (λ stop. stop ≡ Stop.NoMemory → H.output_faults host.new ≡ H.output_faults host.old) }
 {
     if output.len() < MOST_GATHERED {
         return Ok(());
@@ -50,7 +48,6 @@ fn write_all<H: Host>(host: &mut H, bytes: &[u8]) -> Result<(), Stop>
     ensures front { H.tells → WritesPrefix (H.written host.old) (H.written host.new) bytes.now }
     ensures moments { H.tells → Since (IsHandedOver (H.history host.old).now bytes.now) (H.history host.old) (H.history host.new) }
     ensures ends { HandsOver H.Source H.Host.own host.old host.new result }
-    ensures calm { MatchResult result (λ _. H.output_faults host.new ≡ H.output_faults host.old) (λ stop. stop ≡ Stop.NoMemory → H.output_faults host.new ≡ H.output_faults host.old) }
 {
     let mut rest = bytes;
     while !rest.is_empty() {

@@ -1,5 +1,5 @@
 // What a run begins with: the database that its log gives.
-ghost use Rattle.std.specs.Prelude.{◌≡◌, ℕ, ◌+◌, ◌^◌, ◌<◌, true, false, None, Some, Ok, Err, IfOk, OnOk, OnErr, IfErr, IsErrOf, if◌then◌else◌};
+ghost use Rattle.std.specs.Prelude.{◌≡◌, ℕ, ◌+◌, ◌^◌, ◌<◌, true, false, None, Some, Ok, Err, IfOk, OnOk, OnErr, IsErrOf, MatchResult, if◌then◌else◌};
 ghost use Rattle.hs_host.specs.Disk.{settled};
 ghost use Rattle.hs_host.specs.Files.{IsOpen};
 ghost use Rattle.hs_host.specs.Moments.{Since, disk_of};
@@ -9,7 +9,7 @@ ghost use Rattle.hs_log.specs.LogReading.{IsReading, TakesText, count_in, left_i
 ghost use Rattle.hs_top.specs.Crash.{IsFound, IsLater};
 ghost use Rattle.hs_top.specs.Opening.{redone, given, opened_of, texts_at, opened_by, state_by};
 ghost use Rattle.hs_top.specs.Running.{Stands, texts_in};
-ghost use Rattle.hs_top.specs.Stop.{OpenStops};
+ghost use Rattle.hs_top.specs.Stop.{NoFaults, OpenStops};
 ghost use Rattle.hs_top.specs.Used.{ReadsLog};
 
 use crate::commit_text::read_commit;
@@ -44,7 +44,7 @@ pub fn open_log<H: Host>(alloc: Global, host: &mut H) -> Result<Opening, Stop>
     ensures texts { Told H.Source H.Host.own host.old → OnOk result (texts_in (H.files host.new) ≡ texts_at (H.files host.old).log) }
     ensures moments { Told H.Source H.Host.own host.old → disk_of (H.history host.old).now FileKind.Log ≡ settled (H.files host.old).log → Since (IsFound (H.files host.old) (H.history host.old).now) (H.history host.old) (H.history host.new) }
     ensures moves { Moves H.Source H.Host.own FileKind.Log (IsLater (H.history host.old).now) host.old host.new }
-    ensures stops { IfErr result (OpenStops H.Source H.Host.own host.old host.new) }
+    ensures stops { MatchResult result (λ _. NoFaults H.Source H.Host.own host.old host.new) (OpenStops H.Source H.Host.own host.old host.new) }
     ensures begun { Told H.Source H.Host.own host.old → is_born (H.files host.old).log ≡ false → OnErr result (IsUnbornOrNew (H.files host.new).log) }
 {
     match Log::open(alloc, host)? {
@@ -69,7 +69,7 @@ fn read_log<H: Host>(alloc: Global, host: &mut H, reader: LogReader) -> Result<O
     ensures texts { Told H.Source H.Host.own host.old → OnOk result (texts_in (H.files host.new) ≡ texts_in (H.files host.old)) }
     ensures moments { Told H.Source H.Host.own host.old → disk_of (H.history host.old).now FileKind.Log ≡ settled (H.files host.old).log → Since (IsFound (H.files host.old) (H.history host.old).now) (H.history host.old) (H.history host.new) }
     ensures moves { Moves H.Source H.Host.own FileKind.Log (IsLater (H.history host.old).now) host.old host.new }
-    ensures stops { IfErr result (OpenStops H.Source H.Host.own host.old host.new) }
+    ensures stops { MatchResult result (λ _. NoFaults H.Source H.Host.own host.old host.new) (OpenStops H.Source H.Host.own host.old host.new) }
 {
     let mut reader = reader;
     let replay = match redo_all(alloc, host, &mut reader) {

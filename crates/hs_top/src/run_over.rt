@@ -14,6 +14,7 @@ ghost use Rattle.hs_top.specs.Machine.{WritesPrefix, transcript, transcript_with
 ghost use Rattle.hs_top.specs.Opening.{Opened, nothing_logged, opened_of, opened_by, begun_with, texts_at, texts_from, ended_with, shown, IsWholeLog};
 ghost use Rattle.hs_host.specs.Used.{Told};
 ghost use Rattle.hs_top.specs.Running.{Stands, OnlyLog, texts_in, is_damaged};
+ghost use Rattle.hs_top.specs.Stop.{NoFaults};
 ghost use Rattle.hs_top.specs.Used.{TakesTurns};
 
 use crate::command::database_of;
@@ -82,6 +83,7 @@ pub fn run<H: Host>(alloc: Global, words: &Words, host: &mut H) -> Status
     ensures input_fault { result ≡ Status.InputFault → Rose (H.input_faults host.old) (H.input_faults host.new) }
     ensures output_fault { result ≡ Status.OutputFault → Rose (H.output_faults host.old) (H.output_faults host.new) }
     ensures disk_fault { result ≡ Status.DiskFault → Rose (H.disk_faults host.old) (H.disk_faults host.new) }
+    ensures no_fault { (result ≡ Status.InputFault → ⊥) → (result ≡ Status.OutputFault → ⊥) → (result ≡ Status.DiskFault → ⊥) → NoFaults H.Source H.Host.own host.old host.new }
 
     // Damaged files.
     ensures foreign { H.tells → result ≡ Status.Damaged Damage.Foreign → IsForeign (H.standing host.old) }

@@ -1,8 +1,8 @@
 // The program at work: one turn after another.
-ghost use Rattle.std.specs.Prelude.{◌≡◌, ℕ, ◌<◌, ◌≤◌, List, [], ◌++◌, None, true, false, IfOk, OnOk, IfErr, IsErrOf};
-ghost use Rattle.hs_host.specs.Host.{Rose};
+ghost use Rattle.std.specs.Prelude.{◌≡◌, ℕ, ◌<◌, ◌≤◌, List, [], ◌++◌, None, true, false, IfOk, OnOk, IsErrOf};
 ghost use Rattle.hs_host.specs.Moments.{Since, IsReading};
 ghost use Rattle.hs_host.specs.Used.{Told, UsesInput};
+ghost use Rattle.hs_entries.specs.Calls.{HasInputCause};
 ghost use Rattle.hs_entries.specs.Left.{IsBeyond};
 ghost use Rattle.hs_entries.specs.Taking.{TakesItem, Counts};
 ghost use Rattle.hs_entries.specs.Reader.{AgreesWith, kept, left};
@@ -128,7 +128,7 @@ fn read_next<H: Host>(reader: &mut EntryReader, host: &mut H) -> Result<Item, In
     ensures agrees { H.tells → AgreesWith reader.old (H.unread host.old) → AgreesWith reader.new (H.unread host.new) }
     ensures too_long { H.tells → IsErrOf result InputFault.TooLong → IsBeyond (left reader.old (H.unread host.old)) }
     ensures uses { UsesInput H.Source H.Host.own host.old host.new }
-    ensures fault { IsErrOf result InputFault.Fault → Rose (H.input_faults host.old) (H.input_faults host.new) }
+    ensures cause { HasInputCause (H.input_faults host.old) (H.input_faults host.new) result }
     ensures later { H.input_faults host.old ≤ H.input_faults host.new }
 {
     reader.next(host)

@@ -283,3 +283,15 @@ fn replies_are_handed_over_where_memory_is_wanted(rt: HostRuntime) -> Result<(),
     }
     Ok(())
 }
+
+// And where the output fails then, that is told.
+#[test]
+fn a_fault_of_the_output_is_told_where_memory_is_wanted(rt: HostRuntime) -> Result<(), Fail> {
+    let alloc = rt.alloc();
+    let words = words(alloc, &["hsql", "demo"])?;
+    let input = b"a: CREATE TABLE T (N BIGINT);a: INSERT INTO T VALUES (1);";
+    let mut host = Noting::new(alloc, host(alloc, input, b"", &[13])?);
+    host.wants_from = 13;
+    assert_eq!(rt; run(alloc, &words, &mut host), Status::OutputFault);
+    Ok(())
+}

@@ -13,7 +13,7 @@ use Rattle.hs_top.proofs.Alone.{alone_stepping, alone_printing, alone_on}
 use Rattle.hs_top.proofs.Holding.{gathered_step, held_failed, held_step, held_telling, stands_handed, step_disks, telling_step, telling_handed, told_through}
 use Rattle.hs_top.proofs.Prefixes.{front_so_far, front_through}
 use Rattle.hs_top.proofs.Stops.{any_ok, ok_weaker}
-use Rattle.hs_top.proofs.Used.{hands_work, work_stopped}
+use Rattle.hs_top.proofs.Used.{hands_work, work_output}
 use Rattle.hs_top.proofs.answer.answer.Goals as goal
 use Rattle.hs_top.proofs.answer.answer.Goals.{After-perform, After-flush_when_large, After-hand_over}
 
@@ -126,10 +126,14 @@ pub returns-in-Ok-clause-alone : goal.returns-in-Ok-clause-alone
 returns-in-Ok-clause-alone g c = λ told. alone_on (alone_stepping (c.perform.ensures.moments told)) (alone_printing (c.flush_when_large.ensures.moments told.tells))
 
 pub returns-in-Ok-clause-ends : goal.returns-in-Ok-clause-ends
-returns-in-Ok-clause-ends g c = hands_work c.perform.ensures.ends.uses c.flush_when_large.ensures.ends
+returns-in-Ok-clause-ends g c = hands_work c.flush_when_large.result c.perform.ensures.ends.uses c.in-Ok.ensures.ends.calm c.flush_when_large.ensures.ends
 
 pub returns-in-Err-clause-ends : goal.returns-in-Err-clause-ends
-returns-in-Err-clause-ends g c = work_stopped c.in-Err.stop c.in-Err.ensures.ends c.hand_over.ensures.uses
+returns-in-Err-clause-ends g c = record {
+  uses = work_output c.perform.ensures.ends.uses c.hand_over.ensures.uses;
+  calm = tt;
+  stops = c.hand_over.ensures.stops c.args.host.now c.in-Err.ensures.ends.stops;
+}
 
 pub returns-in-Err-clause-front : goal.returns-in-Err-clause-front
 returns-in-Err-clause-front g c = λ told.

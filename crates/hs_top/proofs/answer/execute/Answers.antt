@@ -36,7 +36,7 @@ returns-in-Some-Select-clause-stands g c =
     any_ok c.select.result after
 
 pub returns-in-Some-Select-clause-ends : goal.returns-in-Some-Select-clause-ends
-returns-in-Some-Select-clause-ends g c = hands_alone c.select.ensures.ends
+returns-in-Some-Select-clause-ends g c = hands_alone c.select.result c.select.ensures.ends
 
 pub returns-in-Some-Create-clause-moments : goal.returns-in-Some-Create-clause-moments
 returns-in-Some-Create-clause-moments g c = λ told.

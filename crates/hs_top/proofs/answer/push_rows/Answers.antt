@@ -5,10 +5,13 @@ use Rattle.hs_machine.specs.Replies.{rows_lines}
 use Rattle.hs_top.proofs.Prefixes.{front_on, front_gathered, front_emptied, gathered, handed}
 use Rattle.hs_host.specs.Moments.{Since}
 use Rattle.hs_host.proofs.Used.{output_on}
+use Rattle.hs_top.specs.declared.stop.Stop.TheVariants.{NoMemory}
 use Rattle.hs_top.specs.Holding.{IsHandedOver}
+use Rattle.hs_top.specs.Stop.{NoFaults, OutputStops}
 use Rattle.hs_top.proofs.Holding.{told_join}
 use Rattle.hs_top.proofs.Endings.{on_err}
 use Rattle.hs_top.proofs.Rows.{rows_next}
+use Rattle.hs_top.proofs.Stops.{no_faults_on, not_ok, output_output, stopped_by}
 use Rattle.hs_top.proofs.answer.push_rows.Goals as goal
 use Rattle.hs_top.proofs.answer.push_rows.Goals.{After-flush_when_large}
 
@@ -53,4 +56,34 @@ loop-row-preserved g c = record {
   grown = λ told. omega (arith, c.loop-row.invariant.grown told, (c.flush_when_large.ensures.front told).grown);
   moments = on g (goal.at.loop-row-preserved g c).After-flush_when_large;
   uses = output_on c.loop-row.invariant.uses c.flush_when_large.ensures.ends.uses;
+  calm = no_faults_on c.loop-row.invariant.calm c.in_ok-flush_when_large.ensures.ends.calm;
 }
+
+-- why it stops
+pub returns-in_err-push_row-clause-ends : goal.returns-in_err-push_row-clause-ends
+returns-in_err-push_row-clause-ends g c =
+    let i = c.loop-row.invariant in
+    let result = c.from_residual.result in
+    let is = c.from_residual.ensures.1 in
+    record {
+      uses = i.uses;
+      calm = not_ok (NoFaults g.H.Source g.H.Host c.args.host.now c.loop-row.host) result NoMemory is;
+      stops = stopped_by (OutputStops g.H.Source g.H.Host c.args.host.now c.loop-row.host) result NoMemory is i.calm;
+    }
+
+pub returns-in_err-flush_when_large-clause-ends : goal.returns-in_err-flush_when_large-clause-ends
+returns-in_err-flush_when_large-clause-ends g c =
+    let i = c.loop-row.invariant in
+    let stop = c.in_err-flush_when_large.field-0.0 in
+    let result = c.from_residual-in_err-flush_when_large.result in
+    let is = c.from_residual-in_err-flush_when_large.ensures.1 in
+    let new = c.flush_when_large.new.host in
+    record {
+      uses = output_on i.uses c.flush_when_large.ensures.ends.uses;
+      calm = not_ok (NoFaults g.H.Source g.H.Host c.args.host.now new) result stop is;
+      stops = stopped_by (OutputStops g.H.Source g.H.Host c.args.host.now new) result stop is
+          (output_output g.H.Source g.H.Host stop c.args.host.now c.loop-row.host new i.calm c.in_err-flush_when_large.ensures.ends.stops);
+    }
+
+pub returns-clause-ends : goal.returns-clause-ends
+returns-clause-ends g c = record { uses = c.loop-row.invariant.uses; calm = c.loop-row.invariant.calm; stops = tt }

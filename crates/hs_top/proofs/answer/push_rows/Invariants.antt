@@ -4,6 +4,7 @@ use Rattle.hs_host.specs.Used.{UsesOutput}
 use Rattle.hs_top.specs.Holding.{IsHandedOver}
 use Rattle.hs_machine.specs.Lines.{printed}
 use Rattle.hs_machine.specs.Replies.{rows_lines}
+use Rattle.hs_top.specs.Stop.{NoFaults}
 use Rattle.hs_top.proofs.answer.push_rows.Given as goal
 
 abbrev pub invariant-loop-row : goal.invariant-loop-row
@@ -14,4 +15,5 @@ invariant-loop-row g l =
       grown : g.H.Source.tells → length (written l.fn.host) ≤ length (written l.host);
       moments : g.H.Source.tells → Since (IsHandedOver (g.H.Host.history l.fn.host).now (l.fn.output ++ printed (rows_lines l.number l.session (map (λ r. r.now) l.fn.rows)))) (g.H.Host.history l.fn.host) (g.H.Host.history l.host);
       uses : UsesOutput g.H.Source g.H.Host l.fn.host l.host;
+      calm : NoFaults g.H.Source g.H.Host l.fn.host l.host;
     }

@@ -5,9 +5,11 @@ use Rattle.hs_host.proofs.Used.{told_on}
 use Rattle.hs_log.specs.Log.{is_broken}
 use Rattle.hs_top.specs.declared.stop.Stop.TheVariants.{Damaged}
 use Rattle.hs_top.specs.Opening.{Opened, given, opened_of, state_by}
+use Rattle.hs_top.specs.Stop.{NoFaults, OpenStops, stop_of}
 use Rattle.hs_top.proofs.Alone.{alone_reads, alone_moves, moves_alone_on}
 use Rattle.hs_top.proofs.Openings.{still_opening, settle_opening}
 use Rattle.hs_top.proofs.Replayed.{opened_is}
+use Rattle.hs_top.proofs.Stops.{disk_calm, ends_by, no_faults_on, open_open, settle_open}
 use Rattle.hs_top.proofs.opening.read_log.Goals as goal
 use Rattle.hs_top.proofs.opening.read_log.Goals.{After-settle}
 
@@ -61,3 +63,15 @@ returns-clause-moments g c = λ told quiet.
 
 pub returns-clause-moves : goal.returns-clause-moves
 returns-clause-moves g c = moves_alone_on (alone_reads c.redo_all.ensures.ends.reads) (alone_moves Log refl c.settle.ensures.changes)
+
+pub returns-in_err-log-clause-stops : goal.returns-in_err-log-clause-stops
+returns-in_err-log-clause-stops g c =
+    let fault = c.in_err-log.field-0.0 in
+    let stop = stop_of fault in
+    let here = c.redo_all.new.host in
+    ends_by (NoFaults g.H.Source g.H.Host c.args.host.now c.settle.new.host) (OpenStops g.H.Source g.H.Host c.args.host.now c.settle.new.host) c.from_residual.result stop c.from_residual.ensures.1
+    (open_open g.H.Source g.H.Host stop c.args.host.now here c.settle.new.host c.in-Ok.ensures.ends.calm
+    (settle_open g.H.Source g.H.Host fault here c.settle.new.host c.settle.ensures.changes.uses c.in_err-log.ensures.fails))
+
+pub returns-clause-stops : goal.returns-clause-stops
+returns-clause-stops g c = no_faults_on c.in-Ok.ensures.ends.calm (disk_calm c.settle.ensures.changes.uses c.in_ok-log.ensures.fails)

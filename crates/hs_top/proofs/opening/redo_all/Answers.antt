@@ -6,9 +6,11 @@ use Rattle.hs_log.specs.declared.log_fault.LogFault.TheVariants.{Broken}
 use Rattle.hs_log.specs.Log.{is_broken}
 use Rattle.hs_log.specs.LogReading.{GoesOn, TakesText, count_in, left_in, place_in, text_in, total_in}
 use Rattle.hs_log.proofs.Logs.{left_same}
+use Rattle.hs_top.specs.declared.stop.Stop.TheVariants.{NoMemory}
 use Rattle.hs_top.specs.Opening.{state_by}
+use Rattle.hs_top.specs.Stop.{NoFaults, OpenStops, stop_of}
 use Rattle.hs_top.proofs.Replayed.{all_given, broken_given, stopped_given, redone_on, redone_none, no_more_left}
-use Rattle.hs_top.proofs.Stops.{damaged_from}
+use Rattle.hs_top.proofs.Stops.{damaged_from, disk_calm, log_open, not_ok, no_faults_on, open_open, stopped_by}
 use Rattle.hs_top.proofs.opening.redo_all.Goals as goal
 use Rattle.hs_top.proofs.opening.redo_all.Goals.{After-advance, After-text}
 
@@ -16,16 +18,44 @@ reads : (g : _) (c : After-advance g) → ReadsFiles g.H.Source g.H.Host c.args.
 reads g c = reads_on c.loop-replay.invariant.reads c.advance.ensures.reads
 
 pub returns-in_err-advance-clause-ends : goal.returns-in_err-advance-clause-ends
-returns-in_err-advance-clause-ends g c = record { reads = reads g (goal.at.returns-in_err-advance-clause-ends g c).After-advance; stops = search rules }
+returns-in_err-advance-clause-ends g c =
+    let fault = c.in_err-advance.field-0.0 in
+    let stop = stop_of fault in
+    let result = c.from_residual.result in
+    let is = c.from_residual.ensures.1 in
+    let here = c.loop-replay.host in
+    record {
+      reads = reads g (goal.at.returns-in_err-advance-clause-ends g c).After-advance;
+      calm = not_ok (NoFaults g.H.Source g.H.Host c.args.host.now c.advance.new.host) result stop is;
+      stops = stopped_by (OpenStops g.H.Source g.H.Host c.args.host.now c.advance.new.host) result stop is
+          (open_open g.H.Source g.H.Host stop c.args.host.now here c.advance.new.host c.loop-replay.invariant.calm
+          (log_open g.H.Source g.H.Host fault here c.advance.new.host c.advance.ensures.reads.uses c.in_err-advance.ensures.cause));
+    }
 
 pub returns-in_err-redo-clause-ends : goal.returns-in_err-redo-clause-ends
-returns-in_err-redo-clause-ends g c = record { reads = reads g (goal.at.returns-in_err-redo-clause-ends g c).After-advance; stops = search rules }
+returns-in_err-redo-clause-ends g c =
+    let result = c.from_residual-in_err-redo.result in
+    let is = c.from_residual-in_err-redo.ensures.1 in
+    record {
+      reads = reads g (goal.at.returns-in_err-redo-clause-ends g c).After-advance;
+      calm = not_ok (NoFaults g.H.Source g.H.Host c.args.host.now c.advance.new.host) result NoMemory is;
+      stops = stopped_by (OpenStops g.H.Source g.H.Host c.args.host.now c.advance.new.host) result NoMemory is
+          (no_faults_on c.loop-replay.invariant.calm (disk_calm c.advance.ensures.reads.uses c.in_ok-advance.ensures.cause));
+    }
 
 pub returns-then-not-branch-clause-ends : goal.returns-then-not-branch-clause-ends
-returns-then-not-branch-clause-ends g c = record { reads = reads g (goal.at.returns-then-not-branch-clause-ends g c).After-advance; stops = tt }
+returns-then-not-branch-clause-ends g c = record {
+  reads = reads g (goal.at.returns-then-not-branch-clause-ends g c).After-advance;
+  calm = tt;
+  stops = no_faults_on c.loop-replay.invariant.calm (disk_calm c.advance.ensures.reads.uses c.in_ok-advance.ensures.cause);
+}
 
 pub returns-clause-ends : goal.returns-clause-ends
-returns-clause-ends g c = record { reads = reads g (goal.at.returns-clause-ends g c).After-advance; stops = tt }
+returns-clause-ends g c = record {
+  reads = reads g (goal.at.returns-clause-ends g c).After-advance;
+  calm = no_faults_on c.loop-replay.invariant.calm (disk_calm c.advance.ensures.reads.uses c.in_ok-advance.ensures.cause);
+  stops = tt;
+}
 
 pub returns-in_err-advance-clause-damaged : goal.returns-in_err-advance-clause-damaged
 returns-in_err-advance-clause-damaged g c = λ told number is.
@@ -60,6 +90,7 @@ loop-replay-preserved g c =
       reading = c.in_ok-advance.ensures.reading;
       counted = search rules;
       reads = reads g (goal.at.loop-replay-preserved g c).After-advance;
+      calm = no_faults_on c.loop-replay.invariant.calm (disk_calm c.advance.ensures.reads.uses c.in_ok-advance.ensures.cause);
       so_far = λ told.
           let log = (g.H.Host.files c.args.host.now).log in
           let later = told_on c.loop-replay.invariant.reads.uses told in

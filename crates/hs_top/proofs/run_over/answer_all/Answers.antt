@@ -11,11 +11,14 @@ use Rattle.hs_top.specs.Holding.{IsHeld, IsGathered, IsHandedOver}
 use Rattle.hs_top.specs.Machine.{State, WritesPrefix, machine, transcript, rest_of, lines_of, texts_of}
 use Rattle.hs_top.specs.Opening.{opened_by, begun_with, texts_from, IsWholeLog}
 use Rattle.hs_top.specs.Running.{machine_of, state_of, texts_in, IsTooLong}
+use Rattle.hs_top.specs.Stop.{NoFaults, RunStops}
 use Rattle.hs_top.specs.Used.{UsesLog}
+use Rattle.hs_top.specs.declared.stop.Stop.TheVariants.{NoMemory}
 use Rattle.hs_top.proofs.Holding.{first_gathered, last_gathered, held_first, held_telling, stands_handed, handed_first}
 use Rattle.hs_top.proofs.Logged.{whole_log}
 use Rattle.hs_top.proofs.Prefixes.{nothing_yet, front_after}
 use Rattle.hs_top.proofs.Runs.{rest_of-over, texts_of-over}
+use Rattle.hs_top.proofs.Stops.{not_ok, stopped_by, no_faults, no_faults_on, output_run, run_run}
 use Rattle.hs_top.proofs.Taken.{fresh_items, fresh_whole, fresh_input, over_input, begun_not_ended, none_left}
 use Rattle.hs_top.proofs.Turns.{ended, front_behind}
 use Rattle.hs_top.proofs.Used.{log_none, log_on, output_log}
@@ -56,13 +59,27 @@ returns-in_err-flush-clause-moments g c = first_moments g (goal.at.returns-in_er
 
 -- what is used for it
 pub returns-in_err-push_opened-clause-ends : goal.returns-in_err-push_opened-clause-ends
-returns-in_err-push_opened-clause-ends g c = record { uses = log_none c.args.host.now; stops = search rules }
+returns-in_err-push_opened-clause-ends g c =
+    let result = c.from_residual.result in
+    let is = c.from_residual.ensures.1 in
+    let host = c.args.host.now in
+    record { uses = log_none host; calm = not_ok (NoFaults g.H.Source g.H.Host host host) result NoMemory is; stops = stopped_by (RunStops g.H.Source g.H.Host host host) result NoMemory is (no_faults host) }
 
 first_log : (g : _) (c : After-flush g) → UsesLog g.H.Source g.H.Host c.args.host.now c.flush.new.host
 first_log g c = output_log c.flush.ensures.ends.uses c.flush.ensures.moments
 
 pub returns-in_err-flush-clause-ends : goal.returns-in_err-flush-clause-ends
-returns-in_err-flush-clause-ends g c = record { uses = first_log g (goal.at.returns-in_err-flush-clause-ends g c).After-flush; stops = search rules }
+returns-in_err-flush-clause-ends g c =
+    let stop = c.in_err-flush.field-0.0 in
+    let result = c.from_residual-in_err-flush.result in
+    let is = c.from_residual-in_err-flush.ensures.1 in
+    let host = c.args.host.now in
+    record {
+      uses = first_log g (goal.at.returns-in_err-flush-clause-ends g c).After-flush;
+      calm = not_ok (NoFaults g.H.Source g.H.Host host c.flush.new.host) result stop is;
+      stops = stopped_by (RunStops g.H.Source g.H.Host host c.flush.new.host) result stop is
+          (output_run g.H.Source g.H.Host stop host host c.flush.new.host (no_faults host) c.in_err-flush.ensures.ends.stops);
+    }
 
 pub returns-in_err-flush-clause-front : goal.returns-in_err-flush-clause-front
 returns-in_err-flush-clause-front g c = λ told.
@@ -105,6 +122,7 @@ loop-running-init g c =
       grown = λ told. (c.flush.ensures.front told).grown;
       count = λ told. omega (arith, c.new.ensures.room, ap length (fresh_input c.new.result (g.H.Source.unread c.flush.new.host) c.new.ensures.ended c.new.ensures.ahead), ap length c.flush.ensures.ends.uses.unread);
       uses = first_log g (goal.at.loop-running-init g c).After-flush;
+      calm = c.in_ok-flush.ensures.ends.calm;
     }
 
 told_turn : (g : _) (c : After-turn g) → Told g.H.Source g.H.Host c.args.host.now → Told g.H.Source g.H.Host c.loop-running.host
@@ -200,16 +218,47 @@ ended_log : (g : _) (c : After-flush-2 g) → UsesLog g.H.Source g.H.Host c.args
 ended_log g c = log_on (turned_log g (goal.at.After-flush-2 g c).After-turn) (output_log c.flush-2.ensures.ends.uses c.flush-2.ensures.moments)
 
 pub returns-in_err-turn-clause-ends : goal.returns-in_err-turn-clause-ends
-returns-in_err-turn-clause-ends g c = record { uses = turned_log g (goal.at.returns-in_err-turn-clause-ends g c).After-turn; stops = search rules }
+returns-in_err-turn-clause-ends g c =
+    let stop = c.in_err-turn.field-0.0 in
+    let result = c.from_residual-in_err-turn.result in
+    let is = c.from_residual-in_err-turn.ensures.1 in
+    record {
+      uses = turned_log g (goal.at.returns-in_err-turn-clause-ends g c).After-turn;
+      calm = not_ok (NoFaults g.H.Source g.H.Host c.args.host.now c.turn.new.host) result stop is;
+      stops = stopped_by (RunStops g.H.Source g.H.Host c.args.host.now c.turn.new.host) result stop is
+          (run_run g.H.Source g.H.Host stop c.args.host.now c.loop-running.host c.turn.new.host c.loop-running.invariant.calm c.in_err-turn.ensures.ends.stops);
+    }
 
 pub returns-in_err-push_closed-clause-ends : goal.returns-in_err-push_closed-clause-ends
-returns-in_err-push_closed-clause-ends g c = record { uses = turned_log g (goal.at.returns-in_err-push_closed-clause-ends g c).After-turn; stops = search rules }
+returns-in_err-push_closed-clause-ends g c =
+    let result = c.from_residual-in_err-push_closed.result in
+    let is = c.from_residual-in_err-push_closed.ensures.1 in
+    record {
+      uses = turned_log g (goal.at.returns-in_err-push_closed-clause-ends g c).After-turn;
+      calm = not_ok (NoFaults g.H.Source g.H.Host c.args.host.now c.turn.new.host) result NoMemory is;
+      stops = stopped_by (RunStops g.H.Source g.H.Host c.args.host.now c.turn.new.host) result NoMemory is
+          (no_faults_on c.loop-running.invariant.calm c.in_ok-turn.ensures.ends.calm);
+    }
 
 pub returns-in_err-flush-2-clause-ends : goal.returns-in_err-flush-2-clause-ends
-returns-in_err-flush-2-clause-ends g c = record { uses = ended_log g (goal.at.returns-in_err-flush-2-clause-ends g c).After-flush-2; stops = search rules }
+returns-in_err-flush-2-clause-ends g c =
+    let stop = c.in_err-flush-2.field-0.0 in
+    let result = c.from_residual-in_err-flush-2.result in
+    let is = c.from_residual-in_err-flush-2.ensures.1 in
+    record {
+      uses = ended_log g (goal.at.returns-in_err-flush-2-clause-ends g c).After-flush-2;
+      calm = not_ok (NoFaults g.H.Source g.H.Host c.args.host.now c.flush-2.new.host) result stop is;
+      stops = stopped_by (RunStops g.H.Source g.H.Host c.args.host.now c.flush-2.new.host) result stop is
+          (output_run g.H.Source g.H.Host stop c.args.host.now c.turn.new.host c.flush-2.new.host (no_faults_on c.loop-running.invariant.calm c.in_ok-turn.ensures.ends.calm)
+          c.in_err-flush-2.ensures.ends.stops);
+    }
 
 pub returns-clause-ends : goal.returns-clause-ends
-returns-clause-ends g c = record { uses = ended_log g (goal.at.returns-clause-ends g c).After-flush-2; stops = tt }
+returns-clause-ends g c = record {
+  uses = ended_log g (goal.at.returns-clause-ends g c).After-flush-2;
+  calm = no_faults_on (no_faults_on c.loop-running.invariant.calm c.in_ok-turn.ensures.ends.calm) c.in_ok-flush-2.ensures.ends.calm;
+  stops = tt;
+}
 
 pub returns-in_err-turn-clause-moments : goal.returns-in_err-turn-clause-moments
 returns-in_err-turn-clause-moments g c = turned g (goal.at.returns-in_err-turn-clause-moments g c).After-turn
@@ -238,4 +287,5 @@ loop-running-preserved g c =
       grown = λ told. omega (arith, i.grown told, (c.turn.ensures.front told).grown);
       count = λ told. omega (arith, i.count told, ok.goes_on.count told);
       uses = turned_log g at;
+      calm = no_faults_on i.calm ok.ends.calm;
     }

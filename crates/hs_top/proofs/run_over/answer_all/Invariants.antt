@@ -6,6 +6,7 @@ use Rattle.hs_entries.specs.Reader.{left, room}
 use Rattle.hs_top.specs.Machine.{transcript, transcript_within, rest_of, lines_of, texts_of}
 use Rattle.hs_top.specs.Opening.{opened_by, begun_with, texts_from}
 use Rattle.hs_top.specs.Running.{machine_of, machine_within, texts_in, IsTooLong, IsSane}
+use Rattle.hs_top.specs.Stop.{NoFaults}
 use Rattle.hs_top.specs.Used.{UsesLog}
 use Rattle.hs_top.proofs.run_over.answer_all.Given as goal
 
@@ -25,6 +26,7 @@ invariant-loop-running g l =
       grown : g.H.Source.tells → length (written l.fn.host) ≤ length (written l.host);
       count : g.H.Source.tells → room l.running.reader + length (unread l.fn.host) ≡ 2 ^ 30 + length (left l.running.reader (unread l.host)).input;
       uses : UsesLog g.H.Source g.H.Host l.fn.host l.host;
+      calm : NoFaults g.H.Source g.H.Host l.fn.host l.host;
     }
 
 abbrev pub decreases-loop-running : goal.decreases-loop-running

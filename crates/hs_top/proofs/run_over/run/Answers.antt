@@ -1,4 +1,4 @@
-use Rattle.std.proofs.Common.{◌≡◌, ◌⊎◌, ◌++◌, ℕ, Bool, false, List, IsTrue, inl, inr, Ok, Err, length, sym, ap, subst, ◌∙◌}
+use Rattle.std.proofs.Common.{rules, ◌≡◌, ◌⊎◌, ◌++◌, ℕ, Bool, false, List, IsTrue, inl, inr, Ok, Err, length, sym, ap, subst, ◌∙◌}
 use Rattle.hs_host.specs.Disk.{settled}
 use Rattle.hs_host.specs.Files.{Five, IsHonest}
 use Rattle.hs_host.specs.Moments.{Moment, History, Since, disk_of}
@@ -11,12 +11,13 @@ use Rattle.hs_top.specs.Crash.{IsSafe, IsKept, IsLater, Survives}
 use Rattle.hs_top.specs.Holding.{IsHeld}
 use Rattle.hs_top.specs.Opening.{Opened, nothing_logged, opened_of, opened_by, texts_at, texts_from, IsWholeLog}
 use Rattle.hs_top.specs.Running.{texts_in}
+use Rattle.hs_top.specs.Stop.{NoFaults}
 use Rattle.hs_top.proofs.Alone.{alone_on}
 use Rattle.hs_top.proofs.Created.{unborn_gives, unborn_or_new}
 use Rattle.hs_top.proofs.Holding.{held_opened}
-use Rattle.hs_top.proofs.Mounted.{kept_before, safe_before, survives_before, later_before, quiet_behind}
+use Rattle.hs_top.proofs.Mounted.{kept_before, safe_before, survives_before, later_before, quiet_behind, mount_calm, open_calm, work_calm}
 use Rattle.hs_top.proofs.Reopened.{reopened, same_Ok}
-use Rattle.hs_top.proofs.Stops.{open_stops}
+use Rattle.hs_top.proofs.Stops.{no_faults_on, open_stops}
 use Rattle.hs_top.proofs.Safe.{opened_counts, safe_now, safe, start_safe, found_kept, born_safe, left_now}
 use Rattle.hs_top.proofs.run_over.run.Goals as goal
 use Rattle.hs_top.proofs.run_over.run.Goals.{After-mount, After-open_log, After-answer_all}
@@ -294,3 +295,24 @@ returns-in-Ok-answer_all-clause-reopens g c = λ told honest opened is same.
     (subst (λ (o : Opened). IsWholeLog log (texts_at old ++ texts_from o (g.H.Source.unread c.open_log.new.host))) by
     (subst (λ (ts : List (List ℕ)). IsWholeLog log (ts ++ texts_from (opened_by c.in-Ok.opening) (g.H.Source.unread c.open_log.new.host))) texts
     (c.in-Ok-answer_all.ensures.log (told_on uses t)))))
+
+-- what is told as no fault is told where no device failed
+pub returns-in-Err-clause-no_fault : goal.returns-in-Err-clause-no_fault
+returns-in-Err-clause-no_fault g c = λ input output disk. mount_calm g.H.Source g.H.Host c.in-Err.status c.args.host.now c.mount.new.host c.in-Err.ensures.mounts.stops disk
+
+pub returns-in-Err-open_log-clause-no_fault : goal.returns-in-Err-open_log-clause-no_fault
+returns-in-Err-open_log-clause-no_fault g c = λ input output disk.
+    let calm : NoFaults g.H.Source g.H.Host c.args.host.now c.mount.new.host = search rules in
+    no_faults_on calm (open_calm g.H.Source g.H.Host c.in-Err-open_log.stop c.from.result c.mount.new.host c.open_log.new.host c.from.ensures c.in-Err-open_log.ensures.stops disk)
+
+pub returns-in-Ok-answer_all-clause-no_fault : goal.returns-in-Ok-answer_all-clause-no_fault
+returns-in-Ok-answer_all-clause-no_fault g c = λ input output disk.
+    let calm : NoFaults g.H.Source g.H.Host c.args.host.now c.mount.new.host = search rules in
+    no_faults_on (no_faults_on calm c.in-Ok.ensures.stops) c.in-Ok-answer_all.ensures.ends.calm
+
+pub returns-in-Err-answer_all-clause-no_fault : goal.returns-in-Err-answer_all-clause-no_fault
+returns-in-Err-answer_all-clause-no_fault g c = λ input output disk.
+    let calm : NoFaults g.H.Source g.H.Host c.args.host.now c.mount.new.host = search rules in
+    no_faults_on (no_faults_on calm c.in-Ok.ensures.stops)
+    (work_calm g.H.Source g.H.Host c.in-Err-answer_all.stop c.from-in-Err-answer_all.result c.open_log.new.host c.answer_all.new.host c.from-in-Err-answer_all.ensures c.in-Err-answer_all.ensures.ends.stops
+    input output disk)

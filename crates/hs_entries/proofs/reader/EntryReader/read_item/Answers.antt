@@ -54,4 +54,5 @@ items-preserved g c =
           c.look.ensures.count c.look.ensures.ahead c.look.ensures.room)
           (asked_none g.S.Source.reads (left_over c.look.new.self) (left_over c.read_on.new.self) c.read_on.new.self.has_ended c.in_ok-item.field-0 c.items.source c.read_on.new.source none c.in_ok-item.ensures.asked);
       uses = search rules;
+      calm = search rules;
     }

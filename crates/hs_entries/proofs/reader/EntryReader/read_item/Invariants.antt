@@ -16,6 +16,7 @@ invariant-items g l =
       ready : is_at_hand l.fn.self ≡ true → (l.source ≡ l.fn.source) × (is_at_hand l.self ≡ true);
       gathers : Gathers g.S.Source.reads (left_over l.fn.self) (left_over l.self) l.fn.source l.source;
       uses : UsesSource g.S.Source l.fn.source l.source;
+      calm : g.S.Source.input_faults l.source ≡ g.S.Source.input_faults l.fn.source;
     }
 
 abbrev pub decreases-items : goal.decreases-items

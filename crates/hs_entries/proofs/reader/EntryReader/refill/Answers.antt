@@ -1,4 +1,5 @@
-use Rattle.std.proofs.Common.{rules, ◌+◌, ◌++◌, refl}
+use Rattle.std.proofs.Common.{rules, ◌+◌, ◌++◌, refl, arith}
+use Rattle.std.proofs.lemmas.List.{nil_from_length}
 use Rattle.hs_entries.specs.Window.{left_of}
 use Rattle.hs_entries.proofs.LeftSteps.{refill_on, refill_grows}
 use Rattle.hs_entries.proofs.reader.EntryReader.refill.Goals as goal
@@ -27,7 +28,7 @@ returns-clause-refills g c =
       fresh_room = search rules;
       more = λ more. refill_grows w after c.args.self.now.sound done.sound c.requires.looked done.room (done.refilled.more.0 more);
       some = search rules;
-      none = search rules;
+      none = λ no. nil_from_length (left_of after) (grind (arith, done.refilled.more, no));
       on = λ rest.
           refill_on (c.args.self.now.count + 1) w after (left_of after ++ rest) rest c.args.self.now.sound done.sound c.requires.looked done.refilled.begun done.refilled.place
           done.room refl;

@@ -100,6 +100,7 @@ skims-preserved g c =
           (omega arith) (sym same)
           (ap (λ (l : List ℕ). l ++ (bytes ++ more)) none ∙ ap (λ (l : List ℕ). l ++ more) (sym (fresh_ahead after.window (read.refills.fresh fresh))))));
       uses = search rules;
+      calm = read.fails ∙ c.skims.invariant.calm;
     }
 
 pub returns-then-not-branch-clause-passes : goal.returns-then-not-branch-clause-passes

@@ -20,6 +20,7 @@ invariant-skims g l =
       goes_on : l.self.has_ended ≡ false;
       gathers : Gathers g.S.Source.reads (left_within l.fn.self l.fn.from) (left_within l.self l.place) l.fn.source l.source;
       uses : UsesSource g.S.Source l.fn.source l.source;
+      calm : g.S.Source.input_faults l.source ≡ g.S.Source.input_faults l.fn.source;
     }
 
 abbrev pub decreases-skims : goal.decreases-skims

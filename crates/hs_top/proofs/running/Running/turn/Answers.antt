@@ -12,13 +12,14 @@ use Rattle.hs_top.specs.Acknowledged.{IsNamed, are_named}
 use Rattle.hs_top.specs.Holding.{IsHeld, IsGathered, IsAcknowledging}
 use Rattle.hs_top.specs.Machine.{State, WritesPrefix, machine, step_of, rest_of, texts_of}
 use Rattle.hs_top.specs.Running.{Stands, machine_of, state_of, texts_in}
+use Rattle.hs_top.specs.Stop.{NoFaults, RunStops}
 use Rattle.hs_top.specs.Used.{UsesLog}
 use Rattle.hs_top.specs.declared.stop.Stop.TheVariants.{TooLong}
 use Rattle.hs_top.proofs.Acknowledged.{items_named}
 use Rattle.hs_top.proofs.Holding.{held_telling, stands_handed, telling_handed}
 use Rattle.hs_top.proofs.Runs.{rest_of-turn, lines_of-turn, texts_of-turn, lines_of-over}
 use Rattle.hs_top.proofs.Taken.{taken, taken_whole, taken_none, none_before, ended, none_left}
-use Rattle.hs_top.proofs.Stops.{read_run}
+use Rattle.hs_top.proofs.Stops.{read_run, work_run, not_ok, stopped_by, no_faults_on}
 use Rattle.hs_top.proofs.Turns.{turned, turning, front_behind, read_on, logged_on}
 use Rattle.hs_top.proofs.Used.{log_on, streams_log, work_log}
 use Rattle.hs_top.proofs.running.Running.turn.Goals as goal
@@ -177,20 +178,35 @@ turning_log g c = log_on (read_so_far g (goal.at.After-answer g c).After-next_it
 pub returns-in-Err-clause-ends : goal.returns-in-Err-clause-ends
 returns-in-Err-clause-ends g c = record {
   uses = read_so_far g (goal.at.returns-in-Err-clause-ends g c).After-next_item;
+  calm = tt;
   stops = read_run g.H.Source g.H.Host c.in-Err.stop _ _ c.in-Err.ensures.ends.stops;
 }
 
 pub returns-then-is_end-clause-ends : goal.returns-then-is_end-clause-ends
-returns-then-is_end-clause-ends g c = record { uses = read_so_far g (goal.at.returns-then-is_end-clause-ends g c).After-next_item; stops = tt }
-
-pub returns-in_err-answer-clause-ends : goal.returns-in_err-answer-clause-ends
-returns-in_err-answer-clause-ends g c = record {
-  uses = turning_log g (goal.at.returns-in_err-answer-clause-ends g c).After-answer;
-  stops = search rules;
+returns-then-is_end-clause-ends g c = record {
+  uses = read_so_far g (goal.at.returns-then-is_end-clause-ends g c).After-next_item;
+  calm = c.in-Ok.ensures.ends.calm;
+  stops = tt;
 }
 
+pub returns-in_err-answer-clause-ends : goal.returns-in_err-answer-clause-ends
+returns-in_err-answer-clause-ends g c =
+    let stop = c.in_err-answer.field-0.0 in
+    let result = c.from_residual.result in
+    let is = c.from_residual.ensures.1 in
+    record {
+      uses = turning_log g (goal.at.returns-in_err-answer-clause-ends g c).After-answer;
+      calm = not_ok (NoFaults g.H.Source g.H.Host c.args.host.now c.answer.new.host) result stop is;
+      stops = stopped_by (RunStops g.H.Source g.H.Host c.args.host.now c.answer.new.host) result stop is
+          (work_run g.H.Source g.H.Host stop c.args.host.now c.next_item.new.host c.answer.new.host c.in-Ok.ensures.ends.calm c.in_err-answer.ensures.ends.stops);
+    }
+
 pub returns-clause-ends : goal.returns-clause-ends
-returns-clause-ends g c = record { uses = turning_log g (goal.at.returns-clause-ends g c).After-answer; stops = tt }
+returns-clause-ends g c = record {
+  uses = turning_log g (goal.at.returns-clause-ends g c).After-answer;
+  calm = no_faults_on c.in-Ok.ensures.ends.calm c.in_ok-answer.ensures.ends.calm;
+  stops = tt;
+}
 
 -- what was read and handed over leaves the log as it stands
 stands_read : (g : _) (c : After-next_item g) → Stands g.H.Source g.H.Host c.args.self.now.work.log c.args.self.now.work.database.commits c.next_item.new.host
