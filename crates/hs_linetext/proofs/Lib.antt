@@ -1,0 +1,2 @@
+pub mod CleanRules
+pub mod ConstraintLemmas

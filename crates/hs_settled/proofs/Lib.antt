@@ -1,0 +1,5 @@
+pub mod AtSpots
+pub mod Clauses
+pub mod Growing
+pub mod Outcomes
+pub mod Widening

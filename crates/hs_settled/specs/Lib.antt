@@ -1,0 +1,5 @@
+pub mod Columns
+pub mod Giving
+pub mod Joins
+pub mod Parts
+pub mod Spots
