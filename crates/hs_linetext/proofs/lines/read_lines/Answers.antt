@@ -8,8 +8,7 @@ use Rattle.hs_linetext.proofs.lines.read_lines.Goals as goal
 
 pub loop-inner-preserved : goal.loop-inner-preserved
 loop-inner-preserved g c =
-    let wording = g.C.Conditions.wording c.args.conditions.now in
-    (
+    let wording = g.C.Conditions.wording c.args.conditions.now in (
       search rules,
       line_read (IsConstraint wording (seen c.args.owner.now)) c.args.front.now (constraint_text wording (seen c.args.owner.now)) c.requires
           (constraint_feedless wording (g.met.C.Conditions.clean c.args.conditions.now) (seen c.args.owner.now))

@@ -14,8 +14,7 @@ returns-then-i-values g c =
     let columns = drop i c.args.columns.now in
     let values = c.args.values.now in
     let end : length values ≤ i = omega (arith, c.if-i-values.true) in
-    let none : [] ≡ values_below c.args.catalog.now c.args.scope.now columns (drop i values) = sym (none_below c.args.catalog.now c.args.scope.now columns (drop i values) (drop_all i values end)) in
-    (
+    let none : [] ≡ values_below c.args.catalog.now c.args.scope.now columns (drop i values) = sym (none_below c.args.catalog.now c.args.scope.now columns (drop i values) (drop_all i values end)) in (
       ap (λ (l : List (Meaning NewValue)). fold with_part c.loop-i.made (map (λ m. m.part) l)) none ∙ c.loop-i.invariant.part,
       ap (λ (l : List (Meaning NewValue)). noted c.loop-i.faults (flat_map (λ m. m.faults) l)) none ∙ c.loop-i.invariant.noted,
     )
