@@ -16,8 +16,8 @@ table_one = record { 0 = 1 }
 
 -- in a read-only transaction it does nothing
 abbrev pub inserted : Bool → Outcome
-inserted true = record { lines = []; changes = []; foot = writing [] }
-inserted false = record { lines = []; changes = change.Insert table_one [] ∷ []; foot = writing (table_one ∷ []) }
+inserted true = record { rows = []; reply = []; changes = []; foot = writing [] }
+inserted false = record { rows = []; reply = []; changes = change.Insert table_one [] ∷ []; foot = writing (table_one ∷ []) }
 
 abbrev pub is_insert : Change → Bool
 is_insert (change.Insert table values) = true

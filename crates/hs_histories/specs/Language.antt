@@ -25,10 +25,11 @@ references_of things = flat_map (λ t. flat_map (λ c. reference_by things t.tab
 
 -- ---- data statements
 
--- What a data statement comes to: its lines, without the number of a commit, its changes, and what it touches. One that
--- is refused has no changes.
+-- What a data statement comes to: the rows that it tells, its reply without the number of a commit, its changes, and what
+-- it touches. One that is refused has no changes.
 pub record Outcome : Type 0 where
-  pub lines : Text
+  pub rows : List Text
+  pub reply : Text
   pub changes : List Change
   pub foot : Footprint
 

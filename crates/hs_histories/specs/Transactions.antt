@@ -19,7 +19,7 @@ pub data Statement : Type 0 where
 
 -- what it answers
 pub data Reply : Type 0 where
-  Lines : Text → Reply
+  Told : List Text → Text → Reply
   Controlled : ControlReply → Reply
 
 -- what the statements of a transaction have come to: their replies and footprints, the newest first, the changes that
@@ -36,7 +36,7 @@ nothing = record { replies = []; changes = []; savepoints = []; feet = [] }
 
 -- a data statement adds its changes behind the others
 abbrev pub answered : Outcome → Trace → Trace
-answered o t = record t { replies = Lines o.lines ∷ t.replies; changes = t.changes ++ o.changes; feet = o.foot ∷ t.feet }
+answered o t = record t { replies = Told o.rows o.reply ∷ t.replies; changes = t.changes ++ o.changes; feet = o.foot ∷ t.feet }
 
 -- a session whose open transaction has these changes and savepoints
 abbrev pub session_in : Trace → Session

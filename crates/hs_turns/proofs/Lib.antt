@@ -1,0 +1,11 @@
+pub mod Answered
+pub mod Counting
+pub mod Ends
+pub mod Follows
+pub mod Numbered
+pub mod Opened
+pub mod Owed
+pub mod Promised
+pub mod Ranks
+pub mod Reached
+pub mod Sane
