@@ -38,10 +38,10 @@ pub record IsReadTo (bytes : List ℕ) (r : GroupReader) : Type 0 where
 abbrev pub read_so_far : GroupReader → Gated
 read_so_far r = record { file = r.file; epoch = r.epoch; groups = r.groups; end = r.end }
 
--- one more group was read, or none
+-- one more group was read; or none, and no payload is at hand
 abbrev pub GoesOn : GroupReader → Bool → GroupReader → Type 0
 GoesOn old true new = (new.groups ≡ old.groups + 1) × (old.end < new.end)
-GoesOn old false new = (new.groups ≡ old.groups) × (new.end ≡ old.end)
+GoesOn old false new = (new.groups ≡ old.groups) × (new.end ≡ old.end) × (payload_in new ≡ [])
 
 -- The next group was read, and its payload is at hand; or a gate that isn't open ends the groups.
 abbrev pub Takes : List ℕ → GroupReader → Bool → GroupReader → Type 0

@@ -1,5 +1,5 @@
 // Reads the groups of a gated file one after another.
-ghost use Rattle.std.specs.Prelude.{◌≡◌, ℕ, ◌+◌, List, IfOk, IfSome, OnOk, IsErrOf, None, false};
+ghost use Rattle.std.specs.Prelude.{◌≡◌, ℕ, ◌+◌, List, [], IfOk, IfSome, OnOk, IsErrOf, None, false};
 ghost use Rattle.hs_host.specs.Files.{Five, of, IsOpen};
 ghost use Rattle.hs_host.specs.Used.{Told, ReadsFiles};
 ghost use Rattle.hs_gate.specs.Faults.{HasGateCause, FailsWith};
@@ -45,6 +45,7 @@ impl GroupReader {
         requires { IsOpen (H.standing host.old) }
         ensures none { Told H.Source H.Host.own host.old → IfOk result (λ reader. reader ≡ None → is_open (of (H.files host.old) file) ≡ false) }
         ensures begun { IfOk result (λ reader. IfSome reader (HasBegun file)) }
+        ensures empty { IfOk result (λ reader. IfSome reader (λ r. payload_in r ≡ [])) }
         ensures ready { IfOk result (λ reader. IfSome reader IsReady) }
         ensures read { Told H.Source H.Host.own host.old → IfOk result (λ reader. IfSome reader (IsReadTo (of (H.files host.old) file))) }
         ensures reads { ReadsFiles H.Source H.Host.own host.old host.new }

@@ -1,5 +1,5 @@
 // Bytes of a file at hand.
-ghost use Rattle.std.specs.Prelude.{◌≡◌, ◌+◌, ◌-◌, ◌^◌, ◌<◌, ◌≤◌, ℕ, List, min, length, take, drop, IfOk, OnOk, IsTrue};
+ghost use Rattle.std.specs.Prelude.{◌≡◌, ◌↔◌, ◌+◌, ◌-◌, ◌^◌, ◌<◌, ◌≤◌, ℕ, List, min, length, take, drop, IfOk, OnOk, IsTrue};
 ghost use Rattle.hs_host.specs.Files.{of, IsOpen};
 ghost use Rattle.hs_host.specs.Used.{Told, ReadsFiles};
 ghost use Rattle.hs_gate.specs.Faults.{FailsWith};
@@ -51,7 +51,7 @@ impl Window {
     #[inline]
     fn has(&self, at: u64, count: u64) -> bool
         requires { at + count < 2 ^ 64 }
-        ensures { IsTrue result → Has self.now at count }
+        ensures { IsTrue result ↔ Has self.now at count }
     {
         self.base <= at && at - self.base + count <= self.count as u64
     }
@@ -91,6 +91,7 @@ impl Window {
         requires sound { IsSound self.old }
         ensures sound { IsSound self.new }
         ensures room { OnOk result (need ≤ length self.new.buffer.items) }
+        ensures same { (self.new.base ≡ self.old.base) × (self.new.count ≡ self.old.count) }
         ensures shows { (bytes : List ℕ) → Shows self.old bytes → Shows self.new bytes }
     {
         let need = need as usize;
