@@ -1,0 +1,4 @@
+pub mod AtEach
+pub mod Gathered
+pub mod Layers
+pub mod Steps
