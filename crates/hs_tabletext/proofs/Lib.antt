@@ -1,0 +1,3 @@
+pub mod Naming
+pub mod TableLemmas
+pub mod ColumnLemmas
