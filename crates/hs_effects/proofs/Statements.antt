@@ -1,5 +1,5 @@
 -- What a writing statement changes depends on the tables that it names, on its own, and on those that reference it.
-use Rattle.std.proofs.Common.{◌≡◌, inl, inr, ℕ, Bool, true, List, [], ◌∷◌, ◌++◌, filter, map, Option, None, Some, Result, Ok, Err, refl, sym, ap, subst, ◌∙◌}
+use Rattle.std.proofs.Common.{◌≡◌, ℕ, List, [], ◌∷◌, ◌++◌, filter, map, Option, None, Some, Result, Ok, Err, refl, ap, subst, ◌∙◌}
 use Rattle.std.specs.FinMap.{entries}
 use Rattle.hs_base.specs.declared.numbers.RowName.{RowName}
 use Rattle.hs_base.specs.declared.numbers.TableNo.{TableNo}
@@ -13,28 +13,31 @@ use Rattle.hs_plan.specs.declared.plan.InsertSource.{InsertSource}
 use Rattle.hs_plan.specs.declared.plan.InsertSource.TheVariants as source
 use Rattle.hs_plan.specs.declared.plan.NewValue.{NewValue}
 use Rattle.hs_plan.specs.declared.plan.NewValue.TheVariants as new
+use Rattle.hs_plan.specs.declared.plan.Plan.TheVariants as plan
 use Rattle.hs_plan.specs.declared.plan.Update.{Update}
 use Rattle.hs_plan.specs.Named.{concat, named, named_if_written, named_in_assignment, named_in_insert, named_in_tuple, named_in_value}
 use Rattle.hs_values.specs.declared.fault.EvalFault.{EvalFault}
 use Rattle.hs_values.specs.declared.value.Value.{Value}
 use Rattle.hs_values.specs.Outcome.{◌>>=◌}
+use Rattle.hs_schema.specs.Catalogue.{Things}
 use Rattle.hs_changes.specs.Settings.{Maps}
 use Rattle.hs_rel.specs.Selection.{is_true, least_fault, unless}
-use Rattle.hs_rel.proofs.Selecting.{head_or_tail, nothing_in}
 use Rattle.hs_actions.specs.Acting.{with_columns}
 use Rattle.hs_actions.specs.Referencing.{Keys}
 use Rattle.hs_actions.specs.Work.{Edits, change_of}
 use Rattle.hs_expression.specs.Outcomes.{all_or_least}
-use Rattle.hs_tentative.specs.NewRows.{defaults, inserted, stored, taken_in, updated, value_for, values_for}
+use Rattle.hs_tentative.specs.NewRows.{defaults, inserted, stored, taken_in, value_for, values_for}
 use Rattle.hs_tentative.specs.Statements.{Numbered, for_which, name_in, of_delete, of_insert, of_update, one_updated, rows_from, with_those_of_actions}
 use Rattle.hs_answer.specs.Answer.{evaluated}
 use Rattle.hs_answer.specs.Frame.{Agree}
 use Rattle.hs_answer.specs.Places.{over_row}
 use Rattle.hs_answer_laws.proofs.Framed.{left_of, query_framed, right_of, value_framed}
-use Rattle.hs_answer_laws.proofs.Groups.{from_map}
-use Rattle.hs_answer_laws.proofs.Outcomes.{all_given, source_of}
-use Rattle.hs_effects.specs.Effects.{AgreeOn, HasChildren, around_in}
-use Rattle.hs_effects.proofs.Actions.{AreIn, actions_same}
+use Rattle.hs_closure.specs.Changing.{IsChanged}
+use Rattle.hs_closure.specs.declared.way.Way.TheVariants as way
+use Rattle.hs_effects.specs.Effects.{AgreeFor, AreEdits, AreLinks, around_in}
+use Rattle.hs_effects.proofs.Actions.{actions_same}
+use Rattle.hs_effects.proofs.Links.{alike_for, follows_links, named_agree, own_same}
+use Rattle.hs_effects.proofs.Edited.{deleted_edits, updated_edits}
 
 -- ---- values and conditions
 
@@ -102,71 +105,61 @@ module _ (a b : Maps) where
     ones_same update [] agree = refl
     ones_same update (e ∷ rows) agree = let first = one_same update e agree in let rest = ones_same update rows agree in λ i. first i ∷ rest i
 
-    named_so : (table : TableNo) (n : ℕ) (edit : RowName × Option (List Value)) (given : Result (List Value) EvalFault) → (given >>= λ row. Ok (name_in table n, Some row)) ≡ Ok edit → edit.0 ≡ name_in table n
-    named_so table n edit (Ok row) h = let same : (name_in table n, Some row) ≡ edit = cc in sym (ap (λ e. e.0) same)
-    named_so table n edit (Err fault) h = absurd (cc)
-
-    module _ (set : ℕ → Bool) (closed : HasChildren keys set) (agree : AgreeOn a b set) where
-      with_same : (edits : Edits) → AreIn set (map (λ e. e.0) edits) → with_those_of_actions (around_in a columns keys) edits ≡ with_those_of_actions (around_in b columns keys) edits
-      with_same edits inside = ap (λ r. r >>= λ all. Ok (map change_of all)) (actions_same a b keys set closed agree edits inside)
-
-      edits_in : (update : Update) (rows : Numbered) (edits : Edits) → set update.table.0 ≡ true → all_or_least (map (one_updated (around_in b columns keys) update) rows) ≡ Ok edits → AreIn set (map (λ e. e.0) edits)
-      edits_in update rows edits own is name found =
-          let edit = from_map (λ e. e.0) edits name found in
-          let told = all_given (map (one_updated (around_in b columns keys) update) rows) edits is in
-          let row = source_of (one_updated (around_in b columns keys) update) rows edits told edit.0 edit.1 in
-          let given = updated (evaluated b) (columns update.table.0) update.assignments row.0.1 in
-          let same : name ≡ name_in update.table row.0.0 = edit.2 ∙ named_so update.table row.0.0 edit.0 given row.2 in
-          subst (λ n. set n.table.0 ≡ true) (sym same) own
-
-      rows_changed : (update : Update) (rows : Numbered) → set update.table.0 ≡ true → Agree a b (concat (map named_in_assignment update.assignments)) → (all_or_least (map (one_updated (around_in a columns keys) update) rows) >>= with_those_of_actions (around_in a columns keys)) ≡ (all_or_least (map (one_updated (around_in b columns keys) update) rows) >>= with_those_of_actions (around_in b columns keys))
-      rows_changed update rows own assigned =
-          let same = ones_same update rows assigned in
-          (λ i. all_or_least (same i) >>= with_those_of_actions (around_in a columns keys)) ∙ by (all_or_least (map (one_updated (around_in b columns keys) update) rows)) refl
-        where
-          by : (given : Result Edits EvalFault) → all_or_least (map (one_updated (around_in b columns keys) update) rows) ≡ given → (given >>= with_those_of_actions (around_in a columns keys)) ≡ (given >>= with_those_of_actions (around_in b columns keys))
-          by (Ok edits) is = with_same edits (edits_in update rows edits own is)
-          by (Err fault) is = refl
-
+    -- the actions of the rows that a statement itself changes
+    module _ (things : Things) (are : AreLinks things keys) where
       -- the rows of the own table for which WHERE is TRUE
-      chosen_same : (table : TableNo) (condition : Option Expr) → set table.0 ≡ true → Agree a b (named_if_written condition) → for_which (evaluated a) condition (entries (a table.0)) ≡ for_which (evaluated b) condition (entries (b table.0))
-      chosen_same table condition own names =
-          let rows = agree table.0 own in
+      pub chosen_same : (table : TableNo) (condition : Option Expr) → a table.0 ≡ b table.0 → Agree a b (named_if_written condition) → for_which (evaluated a) condition (entries (a table.0)) ≡ for_which (evaluated b) condition (entries (b table.0))
+      chosen_same table condition rows names =
           for_which_same condition (entries (a table.0)) names ∙ (λ i. for_which (evaluated b) condition (entries (rows i)))
 
-      pub update_same : (update : Update) → set update.table.0 ≡ true → Agree a b (concat (map named_in_assignment update.assignments) ++ named_if_written update.filter) → of_update (around_in a columns keys) update ≡ of_update (around_in b columns keys) update
-      update_same update own names =
-          let assigned = left_of a b (concat (map named_in_assignment update.assignments)) (named_if_written update.filter) names in
-          let written = right_of a b (concat (map named_in_assignment update.assignments)) (named_if_written update.filter) names in
-          let chosen = chosen_same update.table update.filter own written in
-          (λ i. chosen i >>= λ rows. all_or_least (map (one_updated (around_in a columns keys) update) rows) >>= with_those_of_actions (around_in a columns keys))
-          ∙ by assigned (for_which (evaluated b) update.filter (entries (b update.table.0)))
-        where
-          by : Agree a b (concat (map named_in_assignment update.assignments)) → (given : Result Numbered EvalFault) → (given >>= λ rows. all_or_least (map (one_updated (around_in a columns keys) update) rows) >>= with_those_of_actions (around_in a columns keys)) ≡ (given >>= λ rows. all_or_least (map (one_updated (around_in b columns keys) update) rows) >>= with_those_of_actions (around_in b columns keys))
-          by assigned (Ok rows) = rows_changed update rows own assigned
-          by assigned (Err fault) = refl
+      -- ---- UPDATE
+
+      module _ (update : Update) (agree : AgreeFor things (plan.Update update) a b) where
+        with_same : (edits : Edits) → AreEdits (IsChanged things (plan.Update update)) edits → with_those_of_actions (around_in a columns keys) edits ≡ with_those_of_actions (around_in b columns keys) edits
+        with_same edits inside =
+            ap (λ r. r >>= λ all. Ok (map change_of all))
+            (actions_same (IsChanged things (plan.Update update)) a b keys (follows_links things keys are (plan.Update update)) (alike_for things keys are (plan.Update update) a b agree) edits inside)
+
+        rows_changed : (rows : Numbered) → Agree a b (concat (map named_in_assignment update.assignments)) → (all_or_least (map (one_updated (around_in a columns keys) update) rows) >>= with_those_of_actions (around_in a columns keys)) ≡ (all_or_least (map (one_updated (around_in b columns keys) update) rows) >>= with_those_of_actions (around_in b columns keys))
+        rows_changed rows assigned =
+            let same = ones_same update rows assigned in
+            (λ i. all_or_least (same i) >>= with_those_of_actions (around_in a columns keys)) ∙ by (all_or_least (map (one_updated (around_in b columns keys) update) rows)) refl
+          where
+            by : (given : Result Edits EvalFault) → all_or_least (map (one_updated (around_in b columns keys) update) rows) ≡ given → (given >>= with_those_of_actions (around_in a columns keys)) ≡ (given >>= with_those_of_actions (around_in b columns keys))
+            by (Ok edits) is = with_same edits (updated_edits things (around_in b columns keys) update rows edits is)
+            by (Err fault) is = refl
+
+        pub update_same : of_update (around_in a columns keys) update ≡ of_update (around_in b columns keys) update
+        update_same =
+            let names = named_agree things keys are (plan.Update update) a b agree in
+            let assigned = left_of a b (concat (map named_in_assignment update.assignments)) (named_if_written update.filter) names in
+            let written = right_of a b (concat (map named_in_assignment update.assignments)) (named_if_written update.filter) names in
+            let chosen = chosen_same update.table update.filter (own_same things keys are (plan.Update update) a b agree way.Update update.table (λ set target closed. target)) written in
+            (λ i. chosen i >>= λ rows. all_or_least (map (one_updated (around_in a columns keys) update) rows) >>= with_those_of_actions (around_in a columns keys))
+            ∙ by assigned (for_which (evaluated b) update.filter (entries (b update.table.0)))
+          where
+            by : Agree a b (concat (map named_in_assignment update.assignments)) → (given : Result Numbered EvalFault) → (given >>= λ rows. all_or_least (map (one_updated (around_in a columns keys) update) rows) >>= with_those_of_actions (around_in a columns keys)) ≡ (given >>= λ rows. all_or_least (map (one_updated (around_in b columns keys) update) rows) >>= with_those_of_actions (around_in b columns keys))
+            by assigned (Ok rows) = rows_changed rows assigned
+            by assigned (Err fault) = refl
 
       -- ---- DELETE
 
-      abbrev deleted : TableNo → ℕ × List Value → RowName × Option (List Value)
-      deleted table e = (name_in table e.0, None)
+      module _ (delete : Delete) (agree : AgreeFor things (plan.Delete delete) a b) where
+        deletion_same : (edits : Edits) → AreEdits (IsChanged things (plan.Delete delete)) edits → with_those_of_actions (around_in a columns keys) edits ≡ with_those_of_actions (around_in b columns keys) edits
+        deletion_same edits inside =
+            ap (λ r. r >>= λ all. Ok (map change_of all))
+            (actions_same (IsChanged things (plan.Delete delete)) a b keys (follows_links things keys are (plan.Delete delete)) (alike_for things keys are (plan.Delete delete) a b agree) edits inside)
 
-      abbrev name_of : RowName × Option (List Value) → RowName
-      name_of edit = edit.0
+        abbrev deleted : ℕ × List Value → RowName × Option (List Value)
+        deleted e = (name_in delete.table e.0, None)
 
-      deleted_in : (table : TableNo) (rows : Numbered) → set table.0 ≡ true → AreIn set (map name_of (map (deleted table) rows))
-      deleted_in table [] own name found = absurd (nothing_in name found)
-      deleted_in table (e ∷ rows) own name found = elim (head_or_tail (name_in table e.0) (map name_of (map (deleted table) rows)) name found) [
-        | inl is ↦ subst (λ (n : RowName). set n.table.0 ≡ true) is own
-        | inr later ↦ deleted_in table rows own name later
-      ]
-
-      pub delete_same : (delete : Delete) → set delete.table.0 ≡ true → Agree a b (named_if_written delete.filter) → of_delete (around_in a columns keys) delete ≡ of_delete (around_in b columns keys) delete
-      delete_same delete own names =
-          let chosen = chosen_same delete.table delete.filter own names in
-          (λ i. chosen i >>= λ rows. with_those_of_actions (around_in a columns keys) (map (deleted delete.table) rows))
-          ∙ by (for_which (evaluated b) delete.filter (entries (b delete.table.0)))
-        where
-          by : (given : Result Numbered EvalFault) → (given >>= λ rows. with_those_of_actions (around_in a columns keys) (map (deleted delete.table) rows)) ≡ (given >>= λ rows. with_those_of_actions (around_in b columns keys) (map (deleted delete.table) rows))
-          by (Ok rows) = with_same (map (deleted delete.table) rows) (deleted_in delete.table rows own)
-          by (Err fault) = refl
+        pub delete_same : of_delete (around_in a columns keys) delete ≡ of_delete (around_in b columns keys) delete
+        delete_same =
+            let names = named_agree things keys are (plan.Delete delete) a b agree in
+            let chosen = chosen_same delete.table delete.filter (own_same things keys are (plan.Delete delete) a b agree way.Deletion delete.table (λ set target closed. target)) names in
+            (λ i. chosen i >>= λ rows. with_those_of_actions (around_in a columns keys) (map deleted rows))
+            ∙ by (for_which (evaluated b) delete.filter (entries (b delete.table.0)))
+          where
+            by : (given : Result Numbered EvalFault) → (given >>= λ rows. with_those_of_actions (around_in a columns keys) (map deleted rows)) ≡ (given >>= λ rows. with_those_of_actions (around_in b columns keys) (map deleted rows))
+            by (Ok rows) = deletion_same (map deleted rows) (deleted_edits things delete rows)
+            by (Err fault) = refl

@@ -4,6 +4,7 @@ use Rattle.std.proofs.lemmas.List.{drop_all}
 use Rattle.hs_claims.specs.declared.footprint.Footprint.{Footprint}
 use Rattle.hs_claims.specs.declared.model.ControlKind.{ControlKind}
 use Rattle.hs_claims.specs.Wants.{reads_start_of}
+use Rattle.hs_changes.specs.Changes.{count_all_inserted}
 use Rattle.hs_database.specs.Database.{Database, view}
 use Rattle.hs_histories.specs.Language.{Language}
 use Rattle.hs_histories.specs.Transactions.{Statement, replay}
@@ -32,7 +33,7 @@ module _ (lang : Language) (opening : Database) (kind : ControlKind) (commits : 
 
   says_alone : (s : Statement) (o : Open) (who : ℕ) → (o.session == who) ≡ true → o.auto ≡ false → o.start ≡ length commits → says lang opening false s o who (only kind commits o) ≡ only kind commits (said lang (now opening commits) s o)
   says_alone (Data text) o who mine auto is =
-      let foot : Database → Footprint = λ d. (lang.outcome o.read_only (view d o.trace.changes) text).foot in
+      let foot : Database → Footprint = λ d. (lang.outcome o.read_only (count_all_inserted o.trace.changes) (view d o.trace.changes) text).foot in
       let db = base kind opening commits o in
       ap (λ (b : Bool). judged (is_free kind o (foot db) (cond (not b) (o ∷ []) [])) (no_conflict kind o (foot db) (newer commits o)) false opening o (said lang db (Data text) o) who (only kind commits o)) mine
       ∙ ap₂ (λ (ks : List Commit) (d : Database). judged true (no_conflict kind o (foot d) ks) false opening o (said lang d (Data text) o) who (only kind commits o)) (newer_none (is_snap o.level) o.start is) (base_now (reads_start_of kind o.level o.read_only) o.start is)

@@ -7,6 +7,7 @@ use Rattle.hs_claims.specs.declared.model.Level.TheVariants.{Snap}
 use Rattle.hs_claims.specs.Compatible.{fits}
 use Rattle.hs_claims.specs.Footprint.{Reference, IsApart, IsClear, IsLawful}
 use Rattle.hs_claims.specs.Wants.{wants_of, keeps_of, reads_start_of, offers}
+use Rattle.hs_changes.specs.Changes.{count_all_inserted}
 use Rattle.hs_schema.specs.Catalogue.{Text, Things}
 use Rattle.hs_sessions.specs.declared.control.Control.{Control}
 use Rattle.hs_database.specs.Database.{Database, view}
@@ -109,25 +110,25 @@ module _ (lang : Language) (laws : Laws lang) (kind : ControlKind) (opening : Da
 
   module _ (text : Text) (valid : lang.is_valid (view (base kind opening commits o) o.trace.changes) ≡ true) where
     abbrev out : Outcome
-    out = lang.outcome o.read_only (view (base kind opening commits o) o.trace.changes) text
+    out = lang.outcome o.read_only (count_all_inserted o.trace.changes) (view (base kind opening commits o) o.trace.changes) text
 
     abbrev feet_then : List Footprint
     feet_then = out.foot ∷ o.trace.feet
 
     lawful_then : Sound lang kind opening commits o → IsLawful (references_of things_now) o.read_only out.foot
     lawful_then s = subst (λ (ts : Things). IsLawful (references_of ts) o.read_only out.foot) (base_things (reads_start_of kind o.level o.read_only) s)
-        (laws.lawful o.read_only (view (base kind opening commits o) o.trace.changes) text valid)
+        (laws.lawful o.read_only (count_all_inserted o.trace.changes) (view (base kind opening commits o) o.trace.changes) text valid)
 
     reader_then : Sound lang kind opening commits o → o.read_only ≡ true → Kept HasNone (told (Data text))
     reader_then s ro =
         let db = view (base kind opening commits o) o.trace.changes in
-        let none : out.changes ≡ [] = ap (λ (b : Bool). (lang.outcome b db text).changes) ro ∙ laws.reader db text valid in
+        let none : out.changes ≡ [] = ap (λ (b : Bool). (lang.outcome b (count_all_inserted o.trace.changes) db text).changes) ro ∙ laws.reader (count_all_inserted o.trace.changes) db text valid in
         answered_kept HasNone out o.trace (ap₂ (λ (xs ys : Changes). xs ++ ys) (s.reader ro).stands none) (s.reader ro)
 
     within_then : Sound lang kind opening commits o → Kept (IsWithinFeet feet_then) (told (Data text))
     within_then s =
         let wider : (cs : Changes) → IsWithinFeet o.trace.feet cs → IsWithinFeet feet_then cs = λ cs h. each_map (WithinSome o.trace.feet) (WithinSome feet_then) (λ c w. inr w) cs h in
-        let among : IsWithinFeet feet_then out.changes = each_map (IsWithin out.foot) (WithinSome feet_then) (λ c w. inl w) out.changes (laws.within o.read_only (view (base kind opening commits o) o.trace.changes) text valid) in
+        let among : IsWithinFeet feet_then out.changes = each_map (IsWithin out.foot) (WithinSome feet_then) (λ c w. inl w) out.changes (laws.within o.read_only (count_all_inserted o.trace.changes) (view (base kind opening commits o) o.trace.changes) text valid) in
         let old = kept_map (IsWithinFeet o.trace.feet) (IsWithinFeet feet_then) wider o.trace.changes o.trace.savepoints s.within in
         answered_kept (IsWithinFeet feet_then) out o.trace (each_append (WithinSome feet_then) o.trace.changes out.changes old.stands among) old
 
@@ -164,7 +165,7 @@ module _ (lang : Language) (laws : Laws lang) (kind : ControlKind) (opening : Da
               (each_all (λ (u : Open). fits (wants_of kind o.level o.read_only out.foot) (held kind u.level u.read_only u.trace.feet)) rest free) known;
         }
 
-  pub answered : AllStand lang opening commits → (text : Text) (rest : List Open) → is_free kind o (lang.outcome o.read_only (view (base kind opening commits o) o.trace.changes) text).foot rest ≡ true
-      → no_conflict kind o (lang.outcome o.read_only (view (base kind opening commits o) o.trace.changes) text).foot (newer commits o) ≡ true
+  pub answered : AllStand lang opening commits → (text : Text) (rest : List Open) → is_free kind o (lang.outcome o.read_only (count_all_inserted o.trace.changes) (view (base kind opening commits o) o.trace.changes) text).foot rest ≡ true
+      → no_conflict kind o (lang.outcome o.read_only (count_all_inserted o.trace.changes) (view (base kind opening commits o) o.trace.changes) text).foot (newer commits o) ≡ true
       → Split lang laws kind opening commits o rest → Split lang laws kind opening commits (said lang (base kind opening commits o) (Data text) o) rest
   answered v text rest free clear p = answered_by text (reads_valid (reads_start_of kind o.level o.read_only) refl p.own_fine) v rest free clear p

@@ -48,10 +48,10 @@ known count (change.Define definition ∷ cs) behind h = absurd cc
 
 pub inserting_is_lawful : Laws inserting
 inserting_is_lawful = record {
-  frame = λ read_only a b text va vb agree. refl;
-  within = λ read_only db text valid. within read_only;
-  lawful = λ read_only db text valid. lawful (references_of db.things) read_only;
-  reader = λ db text valid. refl;
+  frame = λ read_only own a b text va vb agree. refl;
+  within = λ read_only own db text valid. within read_only;
+  lawful = λ read_only own db text valid. lawful (references_of db.things) read_only;
+  reader = λ own db text valid. refl;
   none = λ db stands. refl;
   more = λ read_only db changes feet text stands fine. (more read_only changes fine.0, refl);
   wider = λ db changes f feet h. h;

@@ -1,6 +1,7 @@
 -- Statements alone: they leave valid databases, and answer alike on two that agree where they read and write.
 use Rattle.std.proofs.Common.{◌≡◌, Bool, true, List, [], ◌∷◌, refl, ap, ◌∙◌, subst}
 use Rattle.hs_claims.specs.declared.footprint.Footprint.{Footprint}
+use Rattle.hs_changes.specs.Changes.{count_all_inserted}
 use Rattle.hs_database.specs.Database.{Database, view}
 use Rattle.hs_histories.specs.Each.{Each}
 use Rattle.hs_histories.specs.Language.{Language, Laws, Outcome, Agree, IsFine, Stands}
@@ -13,7 +14,7 @@ module _ (lang : Language) (laws : Laws lang) (read_only : Bool) where
   -- one statement more
   pub settle_fine : (db : Database) → Stands lang db → (s : Statement) (t : Trace) → Kept (IsFine lang db t.feet) t → Kept (IsFine lang db (settle lang read_only db s t).feet) (settle lang read_only db s t)
   settle_fine db v (Data text) t h =
-      let o = lang.outcome read_only (view db t.changes) text in
+      let o = lang.outcome read_only (count_all_inserted t.changes) (view db t.changes) text in
       answered_kept (IsFine lang db (o.foot ∷ t.feet)) o t (laws.more read_only db t.changes t.feet text v h.stands)
       (kept_map (IsFine lang db t.feet) (IsFine lang db (o.foot ∷ t.feet)) (λ cs k. (laws.wider db cs o.foot t.feet k.0, k.1)) t.changes t.savepoints h)
   settle_fine db v (OnSession control) t h = control_kept (IsFine lang db t.feet) control t h
@@ -36,7 +37,7 @@ module _ (lang : Language) (laws : Laws lang) (read_only : Bool) where
   settle_moves : (a b : Database) (s : Statement) (t : Trace) → lang.is_valid (view a t.changes) ≡ true → lang.is_valid (view b t.changes) ≡ true → Each (λ f. Agree f a b) (settle lang read_only a s t).feet
       → settle lang read_only b s t ≡ settle lang read_only a s t
   settle_moves a b (Data text) t va vb h =
-      ap (λ (o : Outcome). answered o t) (laws.frame read_only (view a t.changes) (view b t.changes) text va vb (view_agrees (lang.outcome read_only (view a t.changes) text).foot t.changes a b h.0))
+      ap (λ (o : Outcome). answered o t) (laws.frame read_only (count_all_inserted t.changes) (view a t.changes) (view b t.changes) text va vb (view_agrees (lang.outcome read_only (count_all_inserted t.changes) (view a t.changes) text).foot t.changes a b h.0))
   settle_moves a b (OnSession control) t va vb h = refl
 
   -- these statements answer alike on both

@@ -4,6 +4,7 @@ use Rattle.std.specs.Prelude.{Option, None, Some}
 use Rattle.std.proofs.lemmas.List.{take_all}
 use Rattle.hs_plan.specs.declared.change.Change.TheVariants as change
 use Rattle.hs_plan.specs.declared.definition.Definition.{Definition}
+use Rattle.hs_changes.specs.Changes.{count_all_inserted}
 use Rattle.hs_schema.specs.Catalogue.{Text}
 use Rattle.hs_database.specs.Database.{Database, view, has_room}
 use Rattle.hs_database.specs.Definitions.{control_after}
@@ -126,7 +127,7 @@ module _ (lang : Language) (laws : Laws lang) (opening : Database) where
   attempts : (back : Bool) (x : Statement) (o : Open) (who : ℕ) (h : History) → Whole h → Splits h o who → Whole (says lang opening back x o who h)
   attempts back (Data text) o who h w s =
       let db = base h.kind opening h.commits o in
-      let f = (lang.outcome o.read_only (view db o.trace.changes) text).foot in
+      let f = (lang.outcome o.read_only (count_all_inserted o.trace.changes) (view db o.trace.changes) text).foot in
       judges (is_free h.kind o f (others who h.open_)) (no_conflict h.kind o f (newer h.commits o)) back o (said lang db (Data text) o) who h w s
       (λ free clear. answered lang laws h.kind opening h.commits o w.stands text (others who h.open_) free clear s)
   attempts back (OnSession c) o who h w s = stays (said lang (base h.kind opening h.commits o) (OnSession c) o) who h w (controlled lang laws h.kind opening h.commits o w.stands (others who h.open_) c s)

@@ -7,6 +7,7 @@ use Rattle.hs_claims.specs.declared.model.Level.TheVariants.{Rc}
 use Rattle.hs_plan.specs.declared.change.Change.{Change}
 use Rattle.hs_plan.specs.declared.change.Change.TheVariants as change
 use Rattle.hs_plan.specs.declared.definition.Definition.{Definition}
+use Rattle.hs_changes.specs.Changes.{count_all_inserted}
 use Rattle.hs_schema.specs.Catalogue.{Text}
 use Rattle.hs_sessions.specs.Modes.{level_of}
 use Rattle.hs_database.specs.Database.{Database, view, has_room}
@@ -81,7 +82,7 @@ judged false clear false opening before after who h = stays_open before who h
 abbrev pub says : Language → Database → Bool → Statement → Open → ℕ → History → History
 says lang opening back (Data text) o who h =
     let db = base h.kind opening h.commits o in
-    let f = (lang.outcome o.read_only (view db o.trace.changes) text).foot in
+    let f = (lang.outcome o.read_only (count_all_inserted o.trace.changes) (view db o.trace.changes) text).foot in
     judged (is_free h.kind o f (others who h.open_)) (no_conflict h.kind o f (newer h.commits o)) back opening o (said lang db (Data text) o) who h
 says lang opening back (OnSession control) o who h = stays_open (said lang (base h.kind opening h.commits o) (OnSession control) o) who h
 

@@ -27,7 +27,7 @@ is_insert (change.Define definition) = false
 
 abbrev pub inserting : Language
 inserting = record {
-  outcome = λ read_only db text. inserted read_only;
+  outcome = λ read_only own db text. inserted read_only;
   definition = λ db text. None;
   is_valid = λ db. true;
   describes = λ db changes feet. list_all is_insert changes;

@@ -9,6 +9,7 @@ use Rattle.hs_plan.specs.declared.change.Change.TheVariants as change
 use Rattle.hs_plan.specs.declared.definition.Definition.{Definition}
 use Rattle.hs_plan.specs.declared.definition.Rule.{Rule}
 use Rattle.hs_plan.specs.declared.definition.Rule.TheVariants as rule
+use Rattle.hs_changes.specs.Changes.{count_all_inserted}
 use Rattle.hs_schema.specs.Catalogue.{Text, Things, constraints_in, number_of}
 use Rattle.hs_database.specs.Database.{Database, view, committed, has_room, IsNumbered}
 use Rattle.hs_histories.specs.Each.{Each, Across}
@@ -35,8 +36,9 @@ pub record Outcome : Type 0 where
 
 -- statements, definitions and constraints as functions
 pub record Language : Type 0 where
-  -- a data statement by its text, in a read-only transaction or another, where it reads this database
-  pub outcome : Bool → Database → Text → Outcome
+  -- a data statement by its text, in a read-only transaction or another, which has inserted so many rows by then, where it
+  -- reads this database
+  pub outcome : Bool → ℕ → Database → Text → Outcome
   -- what the text of a definition means over a database, and none where it is refused
   pub definition : Database → Text → Option Definition
   -- every constraint holds, and each row fits its columns
@@ -75,16 +77,16 @@ Stands lang db = (lang.is_valid db ≡ true) × IsNumbered db
 
 pub record Laws (lang : Language) : Type 0 where
   -- Frame: on two valid databases that agree on what a statement touches it comes to the same
-  pub frame : (read_only : Bool) (a b : Database) (text : Text) → lang.is_valid a ≡ true → lang.is_valid b ≡ true → Agree (lang.outcome read_only a text).foot a b
-      → lang.outcome read_only b text ≡ lang.outcome read_only a text
+  pub frame : (read_only : Bool) (inserted : ℕ) (a b : Database) (text : Text) → lang.is_valid a ≡ true → lang.is_valid b ≡ true → Agree (lang.outcome read_only inserted a text).foot a b
+      → lang.outcome read_only inserted b text ≡ lang.outcome read_only inserted a text
   -- on a valid database its changes are within its footprint, which is lawful; in a read-only transaction there are none
-  pub within : (read_only : Bool) (db : Database) (text : Text) → lang.is_valid db ≡ true → Each (IsWithin (lang.outcome read_only db text).foot) (lang.outcome read_only db text).changes
-  pub lawful : (read_only : Bool) (db : Database) (text : Text) → lang.is_valid db ≡ true → IsLawful (references_of db.things) read_only (lang.outcome read_only db text).foot
-  pub reader : (db : Database) (text : Text) → lang.is_valid db ≡ true → (lang.outcome true db text).changes ≡ []
+  pub within : (read_only : Bool) (inserted : ℕ) (db : Database) (text : Text) → lang.is_valid db ≡ true → Each (IsWithin (lang.outcome read_only inserted db text).foot) (lang.outcome read_only inserted db text).changes
+  pub lawful : (read_only : Bool) (inserted : ℕ) (db : Database) (text : Text) → lang.is_valid db ≡ true → IsLawful (references_of db.things) read_only (lang.outcome read_only inserted db text).foot
+  pub reader : (inserted : ℕ) (db : Database) (text : Text) → lang.is_valid db ≡ true → (lang.outcome true inserted db text).changes ≡ []
   -- no footprint describes no change; one statement more is described by its footprint, and leaves a valid database
   pub none : (db : Database) → Stands lang db → lang.describes db [] [] ≡ true
   pub more : (read_only : Bool) (db : Database) (changes : List Change) (feet : List Footprint) (text : Text) → Stands lang db → IsFine lang db feet changes
-      → IsFine lang db ((lang.outcome read_only (view db changes) text).foot ∷ feet) (changes ++ (lang.outcome read_only (view db changes) text).changes)
+      → IsFine lang db ((lang.outcome read_only (count_all_inserted changes) (view db changes) text).foot ∷ feet) (changes ++ (lang.outcome read_only (count_all_inserted changes) (view db changes) text).changes)
   -- a further footprint may be among those that describe
   pub wider : (db : Database) (changes : List Change) (f : Footprint) (feet : List Footprint) → lang.describes db changes feet ≡ true → lang.describes db changes (f ∷ feet) ≡ true
   -- new numbers of inserted rows leave it valid

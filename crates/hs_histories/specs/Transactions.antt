@@ -3,6 +3,7 @@ use Rattle.std.specs.Prelude.{Bool, List, [], ◌∷◌, ◌++◌}
 use Rattle.hs_ast.specs.declared.session.Isolation.TheVariants.{ReadCommitted}
 use Rattle.hs_claims.specs.declared.footprint.Footprint.{Footprint}
 use Rattle.hs_plan.specs.declared.change.Change.{Change}
+use Rattle.hs_changes.specs.Changes.{count_all_inserted}
 use Rattle.hs_schema.specs.Catalogue.{Text}
 use Rattle.hs_sessions.specs.declared.control.Control.{Control}
 use Rattle.hs_sessions.specs.declared.control.ControlReply.{ControlReply}
@@ -47,7 +48,7 @@ with_session after t = record t { replies = Controlled after.0 ∷ t.replies; ch
 
 -- one statement, which nobody holds up, where its transaction reads this database and has come to a trace
 abbrev pub settle : Language → Bool → Database → Statement → Trace → Trace
-settle lang read_only db (Data text) t = answered (lang.outcome read_only (view db t.changes) text) t
+settle lang read_only db (Data text) t = answered (lang.outcome read_only (count_all_inserted t.changes) (view db t.changes) text) t
 settle lang read_only db (OnSession control) t = with_session (controlled control (session_in t)) t
 
 -- statements one after another, the newest first, in one transaction that reads this database

@@ -87,5 +87,5 @@ pub fn definitions_wait_for_every_open_transaction()
 
 /// The laws can be met, by a language whose one statement inserts a row.
 pub fn the_laws_can_be_met()
-    ensures { (lang : Language) × Laws lang × ((db : Database) (text : Text) → (lang.outcome false db text).changes ≡ change.Insert table_one [] ∷ []) }
+    ensures { (lang : Language) × Laws lang × ((inserted : ℕ) (db : Database) (text : Text) → (lang.outcome false inserted db text).changes ≡ change.Insert table_one [] ∷ []) }
 {}

@@ -5,6 +5,7 @@ use Rattle.hs_ast.specs.declared.session.Modes.{Modes as NewModes}
 use Rattle.hs_claims.specs.declared.claim.Claim.{Claim}
 use Rattle.hs_claims.specs.Wants.{wants_of}
 use Rattle.hs_plan.specs.declared.definition.Definition.{Definition}
+use Rattle.hs_changes.specs.Changes.{count_all_inserted}
 use Rattle.hs_schema.specs.Catalogue.{Text}
 use Rattle.hs_sessions.specs.declared.control.Control.{Control}
 use Rattle.hs_sessions.specs.Modes.{joined, no_modes}
@@ -104,7 +105,7 @@ module _ (d : Dialect) (opening : Database) (made : ℕ) where
   of_data : (why : Option Text) (entry : Entry) (o : Open) (m : Machine) → F m (data_by d opening made why entry o m).next
   of_data (Some why) entry o m = noting entry m
   of_data None entry o m =
-      let out = (language_of d).outcome o.read_only (seen_by d opening made m o) entry.text in
+      let out = (language_of d).outcome o.read_only (count_all_inserted o.trace.changes) (seen_by d opening made m o) entry.text in
       judges (is_free m.history.kind o out.foot (others entry.session m.history.open_)) (no_conflict m.history.kind o out.foot (newer m.history.commits o)) entry o (wants_of m.history.kind o.level o.read_only out.foot) m
 
   -- ---- definitions
@@ -224,7 +225,7 @@ module _ (d : Dialect) (opening : Database) (made : ℕ) where
   data_quiet : (why : Option Text) (entry : Entry) (o : Open) (m : Machine) → (data_by d opening made why entry o m).final ≡ false → Quiet m (data_by d opening made why entry o m)
   data_quiet (Some why) entry o m e = absurd cc
   data_quiet None entry o m e =
-      let out = (language_of d).outcome o.read_only (seen_by d opening made m o) entry.text in
+      let out = (language_of d).outcome o.read_only (count_all_inserted o.trace.changes) (seen_by d opening made m o) entry.text in
       judged_quiet (is_free m.history.kind o out.foot (others entry.session m.history.open_)) (no_conflict m.history.kind o out.foot (newer m.history.commits o)) entry o (wants_of m.history.kind o.level o.read_only out.foot) m e
 
   defined_quiet : (how : Ending) (before : List Words) (entry : Entry) (m : Machine) → (defined_by d opening made how before entry m).final ≡ false → Quiet m (defined_by d opening made how before entry m)

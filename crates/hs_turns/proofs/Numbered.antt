@@ -9,6 +9,7 @@ use Rattle.hs_entries.specs.declared.item.Item.TheVariants as item
 use Rattle.hs_plan.specs.declared.change.Change.{Change}
 use Rattle.hs_plan.specs.declared.change.Change.TheVariants as change
 use Rattle.hs_plan.specs.declared.definition.Definition.{Definition}
+use Rattle.hs_changes.specs.Changes.{count_all_inserted}
 use Rattle.hs_schema.specs.Catalogue.{Text}
 use Rattle.hs_sessions.specs.declared.control.Control.{Control}
 use Rattle.hs_sessions.specs.declared.control.ControlReply.{ControlReply}
@@ -154,7 +155,7 @@ module _ (d : Dialect) (opening : Database) (made : ℕ) where
     o = own_of d opening made m de
 
     abbrev foot_ : Footprint
-    foot_ = ((language_of d).outcome o.read_only (seen_by d opening made m o) entry.text).foot
+    foot_ = ((language_of d).outcome o.read_only (count_all_inserted o.trace.changes) (seen_by d opening made m o) entry.text).foot
 
     abbrev after_ : Open
     after_ = said (language_of d) (base m.history.kind opening m.history.commits o) (Data entry.text) o
@@ -166,7 +167,7 @@ module _ (d : Dialect) (opening : Database) (made : ℕ) where
     is_clear_ = no_conflict m.history.kind o foot_ (newer m.history.commits o)
 
     newest_tells : (commit : Option ℕ) → commits_in (newest d opening made after_ commit) ≡ commits_in (Replies (codes "") commit ∷ [])
-    newest_tells commit = let out = (language_of d).outcome o.read_only (seen_by d opening made m o) entry.text in told_tells out.rows out.reply commit
+    newest_tells commit = let out = (language_of d).outcome o.read_only (count_all_inserted o.trace.changes) (seen_by d opening made m o) entry.text in told_tells out.rows out.reply commit
 
     -- the event of a statement that goes on
     goes_count : (back : Bool) (n : ℕ) → is_free_ ≡ true → is_clear_ ≡ true → count (goes_on opening o after_ s m.history) ≡ n → commits_of (takes d opening made (data_event d opening made m entry false) m) ≡ n
@@ -211,7 +212,7 @@ module _ (d : Dialect) (opening : Database) (made : ℕ) where
 
     refusal_by : (x : Open) (why : Text) (t : Bool) → commits_in (if t then Replies why None ∷ [] else newest d opening made (said (language_of d) (base m.history.kind opening m.history.commits x) (Data entry.text) x) None) ≡ []
     refusal_by x why true = refl
-    refusal_by x why false = let out = (language_of d).outcome x.read_only (view (base m.history.kind opening m.history.commits x) x.trace.changes) entry.text in told_tells out.rows out.reply None
+    refusal_by x why false = let out = (language_of d).outcome x.read_only (count_all_inserted x.trace.changes) (view (base m.history.kind opening m.history.commits x) x.trace.changes) entry.text in told_tells out.rows out.reply None
 
     refusal_none : (found : Option Open) (why : Text) → commits_in (refusal_told d opening made found entry why m) ≡ []
     refusal_none None why = refl
@@ -222,7 +223,7 @@ module _ (d : Dialect) (opening : Database) (made : ℕ) where
     noted_auto x is false auto =
         let e = event m s false false (act.Says (Data entry.text)) in
         let p = own_of d opening made m e in
-        let f = ((language_of d).outcome p.read_only (seen_by d opening made m p) entry.text).foot in
+        let f = ((language_of d).outcome p.read_only (count_all_inserted p.trace.changes) (seen_by d opening made m p) entry.text).foot in
         judged_kept (language_of d) opening (is_free m.history.kind p f (others s m.history.open_)) (no_conflict m.history.kind p f (newer m.history.commits p)) false p (said (language_of d) (base m.history.kind opening m.history.commits p) (Data entry.text) p) s m.history
         (ap (λ (y : Open). y.auto) (own_is m e x is) ∙ auto)
 

@@ -18,6 +18,7 @@ use Rattle.hs_base.specs.declared.numbers.TableNo.{TableNo}
 use Rattle.hs_plan.specs.declared.change.Change.{Change}
 use Rattle.hs_plan.specs.declared.change.Change.TheVariants as change
 use Rattle.hs_plan.specs.declared.definition.Definition.{Definition}
+use Rattle.hs_changes.specs.Changes.{count_all_inserted}
 use Rattle.hs_sessions.specs.declared.control.Control.{Control}
 use Rattle.hs_schema.specs.Catalogue.{Text}
 use Rattle.hs_database.specs.Database.{Database, has_room, view}
@@ -186,7 +187,7 @@ module _ (lang : Language) (opening : Database) where
     says_others : (back : Bool) (s : Statement) (o : Open) (h : History) → (o.session == who) ≡ true → has b (says lang opening back s o who h).open_ ≡ has b h.open_
     says_others back (Data text) o h mine =
         let db = base h.kind opening h.commits o in
-        let f = (lang.outcome o.read_only (view db o.trace.changes) text).foot in
+        let f = (lang.outcome o.read_only (count_all_inserted o.trace.changes) (view db o.trace.changes) text).foot in
         judged_others (is_free h.kind o f (others who h.open_)) (no_conflict h.kind o f (newer h.commits o)) back o (said lang db (Data text) o) h mine mine
     says_others back (OnSession control) o h mine = has_put b who (said lang (base h.kind opening h.commits o) (OnSession control) o) mine other h.open_
 

@@ -8,6 +8,7 @@ use Rattle.hs_claims.specs.Wants.{wants_of}
 use Rattle.hs_entries.specs.declared.item.Item.{Item}
 use Rattle.hs_entries.specs.declared.item.Item.TheVariants as item
 use Rattle.hs_plan.specs.declared.definition.Definition.{Definition}
+use Rattle.hs_changes.specs.Changes.{count_all_inserted}
 use Rattle.hs_schema.specs.Catalogue.{Text}
 use Rattle.hs_sessions.specs.declared.control.Control.{Control}
 use Rattle.hs_sessions.specs.declared.control.ControlReply.{ControlReply}
@@ -82,7 +83,7 @@ module _ (d : Dialect) (opening : Database) (made : ℕ) where
   went_once false entry after m once = once None
 
   said_once : (entry : Entry) (o : Open) (db : Database) → NewestOnce (said (language_of d) db (Data entry.text) o)
-  said_once entry o db commit = let out = (language_of d).outcome o.read_only (view db o.trace.changes) entry.text in told_once out.rows out.reply commit
+  said_once entry o db commit = let out = (language_of d).outcome o.read_only (count_all_inserted o.trace.changes) (view db o.trace.changes) entry.text in told_once out.rows out.reply commit
 
   held_once : (back : Option ℕ) (b : List ℕ) (entry : Entry) (m : Machine) → Once (held_up_data d opening made back b entry m)
   held_once (Some back) b entry m = refl
@@ -107,7 +108,7 @@ module _ (d : Dialect) (opening : Database) (made : ℕ) where
   data_once : (why : Option Text) (entry : Entry) (o : Open) (m : Machine) → Once (data_by d opening made why entry o m)
   data_once (Some why) entry o m = refused_once entry why m
   data_once None entry o m =
-      let f = ((language_of d).outcome o.read_only (seen_by d opening made m o) entry.text).foot in
+      let f = ((language_of d).outcome o.read_only (count_all_inserted o.trace.changes) (seen_by d opening made m o) entry.text).foot in
       judged_once (is_free m.history.kind o f (others entry.session m.history.open_)) (no_conflict m.history.kind o f (newer m.history.commits o)) entry o (wants_of m.history.kind o.level o.read_only f) m
 
   defines_once : (how : Ending) (before : List Words) (entry : Entry) (m : Machine) → count_by is_reply before ≡ 0 → Once (defined_by d opening made how before entry m)

@@ -10,6 +10,7 @@ use Rattle.hs_claims.specs.declared.model.ControlKind.{ControlKind}
 use Rattle.hs_claims.specs.Compatible.{fits}
 use Rattle.hs_claims.specs.Wants.{wants_of}
 use Rattle.hs_plan.specs.declared.definition.Definition.{Definition}
+use Rattle.hs_changes.specs.Changes.{count_all_inserted}
 use Rattle.hs_schema.specs.Catalogue.{Text}
 use Rattle.hs_sessions.specs.declared.control.Control.{Control}
 use Rattle.hs_sessions.specs.Modes.{joined, no_modes}
@@ -303,7 +304,7 @@ module _ (d : Dialect) (opening : Database) (made : ℕ) where
   mine m e = own_session e.session (fresh m.history.kind e (length m.history.commits)) (eq-eqb e.session e.session refl) m.history.open_
 
   abbrev foot_at : Machine → Entry → Open → Type 0
-  foot_at m entry o = ((language_of d).outcome o.read_only (seen_by d opening made m o) entry.text).foot ≡ untouched
+  foot_at m entry o = ((language_of d).outcome o.read_only (count_all_inserted o.trace.changes) (seen_by d opening made m o) entry.text).foot ≡ untouched
 
   module _ (entry : Entry) (m : Machine) (sane : Sane m) (here : Here m entry.session) where
     abbrev s : ℕ
@@ -316,7 +317,7 @@ module _ (d : Dialect) (opening : Database) (made : ℕ) where
     o = own_of d opening made m de
 
     abbrev out : Outcome
-    out = (language_of d).outcome o.read_only (seen_by d opening made m o) entry.text
+    out = (language_of d).outcome o.read_only (count_all_inserted o.trace.changes) (seen_by d opening made m o) entry.text
 
     abbrev wanted : List Claim
     wanted = wants_of m.history.kind o.level o.read_only out.foot
@@ -363,7 +364,7 @@ module _ (d : Dialect) (opening : Database) (made : ℕ) where
         let e = event m s false false (act.Says (Data entry.text)) in
         let p = own_of d opening made m e in
         let same : p ≡ x = own_is m e x is in
-        let f = ((language_of d).outcome p.read_only (seen_by d opening made m p) entry.text).foot in
+        let f = ((language_of d).outcome p.read_only (count_all_inserted p.trace.changes) (seen_by d opening made m p) entry.text).foot in
         let no : f ≡ untouched = subst (foot_at m entry) (sym same) none in
         opened e m sane here
         (judged_goes (language_of d) opening (is_free m.history.kind p f (others s m.history.open_)) (no_conflict m.history.kind p f (newer m.history.commits p)) false p (said (language_of d) (base m.history.kind opening m.history.commits p) (Data entry.text) p) s m.history
@@ -382,8 +383,8 @@ module _ (d : Dialect) (opening : Database) (made : ℕ) where
     data_goes is None e = judges_goes (is_free m.history.kind o out.foot (others s m.history.open_)) (no_conflict m.history.kind o out.foot (newer m.history.commits o)) refl refl
     data_goes is (Some why) e = refusal_goes why (λ x found.
         let at : d.refusal x.read_only (seen_by d opening made m x) entry.text ≡ Some why = subst (λ (y : Open). d.refusal y.read_only (seen_by d opening made m y) entry.text ≡ Some why) (own_is m de x found) e in
-        ap (λ (r : Request). (outcome_of d x.read_only (seen_by d opening made m x) entry.text r).foot) is
-        ∙ ap (λ (y : Option Text). (unless_refused y (d.outcome x.read_only (seen_by d opening made m x) entry.text)).foot) at)
+        ap (λ (r : Request). (outcome_of d x.read_only (count_all_inserted x.trace.changes) (seen_by d opening made m x) entry.text r).foot) is
+        ∙ ap (λ (y : Option Text). (unless_refused y (d.outcome x.read_only (count_all_inserted x.trace.changes) (seen_by d opening made m x) entry.text)).foot) at)
 
   -- ---- definitions
 
@@ -465,13 +466,13 @@ module _ (d : Dialect) (opening : Database) (made : ℕ) where
 
   definition_goes : (entry : Entry) (m : Machine) → Sane m → Here m entry.session → d.request entry.text ≡ request.OfDefinition → (is_first : Bool) (why : Option Text) → Goes m entry.session (definition_by d opening made is_first why entry m)
   definition_goes entry m sane here is is_first (Some why) = refusal_goes entry m sane here why (λ x found.
-      ap (λ (r : Request). (outcome_of d x.read_only (seen_by d opening made m x) entry.text r).foot) is ∙ no_foot_by (d.refusal x.read_only (seen_by d opening made m x) entry.text))
+      ap (λ (r : Request). (outcome_of d x.read_only (count_all_inserted x.trace.changes) (seen_by d opening made m x) entry.text r).foot) is ∙ no_foot_by (d.refusal x.read_only (seen_by d opening made m x) entry.text))
   definition_goes entry m sane here is is_first None = bound_goes entry m sane here is_first
 
   -- ---- the others
 
   start_goes : (entry : Entry) (modes : NewModes) (m : Machine) → Sane m → Here m entry.session → d.request entry.text ≡ request.Starts modes → (open_ : Bool) → Goes m entry.session (attempt_start d opening made open_ modes entry m)
-  start_goes entry modes m sane here is true = refusal_goes entry m sane here open_transaction (λ x found. ap (λ (r : Request). (outcome_of d x.read_only (seen_by d opening made m x) entry.text r).foot) is)
+  start_goes entry modes m sane here is true = refusal_goes entry m sane here open_transaction (λ x found. ap (λ (r : Request). (outcome_of d x.read_only (count_all_inserted x.trace.changes) (seen_by d opening made m x) entry.text r).foot) is)
   start_goes entry modes m sane here is false =
       let set : Settings = record (settings_of m entry.session) { next = joined modes (settings_of m entry.session).next } in
       let n = named d opening made modes entry.session m in
@@ -519,7 +520,7 @@ module _ (d : Dialect) (opening : Database) (made : ℕ) where
     here_either false x y h k = k
 
   request_goes : (entry : Entry) (m : Machine) → Sane m → Here m entry.session → (is_first : Bool) (r : Request) → d.request entry.text ≡ r → Goes m entry.session (attempt_by d opening made r is_first entry m)
-  request_goes entry m sane here is_first (request.Faulty why) is = refusal_goes entry m sane here why (λ x found. ap (λ (r : Request). (outcome_of d x.read_only (seen_by d opening made m x) entry.text r).foot) is)
+  request_goes entry m sane here is_first (request.Faulty why) is = refusal_goes entry m sane here why (λ x found. ap (λ (r : Request). (outcome_of d x.read_only (count_all_inserted x.trace.changes) (seen_by d opening made m x) entry.text r).foot) is)
   request_goes entry m sane here is_first request.OfData is =
       let o = own_of d opening made m (data_event d opening made m entry false) in data_goes entry m sane here is (d.refusal o.read_only (seen_by d opening made m o) entry.text) refl
   request_goes entry m sane here is_first request.OfDefinition is =

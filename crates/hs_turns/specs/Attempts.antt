@@ -12,6 +12,7 @@ use Rattle.hs_claims.specs.Compatible.{fits}
 use Rattle.hs_claims.specs.Wants.{wants_of}
 use Rattle.hs_plan.specs.declared.change.Change.{Change}
 use Rattle.hs_plan.specs.declared.definition.Definition.{Definition}
+use Rattle.hs_changes.specs.Changes.{count_all_inserted}
 use Rattle.hs_schema.specs.Catalogue.{Text}
 use Rattle.hs_sessions.specs.declared.control.Control.{Control}
 use Rattle.hs_sessions.specs.declared.control.Control.TheVariants as control
@@ -218,7 +219,7 @@ module _ (d : Dialect) (opening : Database) (made : ℕ) where
 
   abbrev pub data_by : Option Text → Entry → Open → Machine → Attempt
   data_by (Some why) entry o m = refused_in_place entry why m
-  data_by None entry o m = bound_data entry o ((language_of d).outcome o.read_only (seen_by m o) entry.text).foot m
+  data_by None entry o m = bound_data entry o ((language_of d).outcome o.read_only (count_all_inserted o.trace.changes) (seen_by m o) entry.text).foot m
 
   abbrev pub attempt_data : Entry → Machine → Attempt
   attempt_data entry m = let o = own_of m (data_event m entry false) in data_by (d.refusal o.read_only (seen_by m o) entry.text) entry o m

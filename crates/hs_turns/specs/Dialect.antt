@@ -1,5 +1,5 @@
 -- Statements as functions, as SQL gives them to the machine, and the language that they are to the laws of histories.
-use Rattle.std.specs.Prelude.{Bool, List, [], ◌++◌, Option, None, Some, Result, Ok, Err, codes}
+use Rattle.std.specs.Prelude.{ℕ, Bool, List, [], ◌++◌, Option, None, Some, Result, Ok, Err, codes}
 use Rattle.hs_ast.specs.declared.session.Modes.{Modes as NewModes}
 use Rattle.hs_claims.specs.declared.footprint.Footprint.{Footprint}
 use Rattle.hs_plan.specs.declared.change.Change.{Change}
@@ -27,8 +27,8 @@ pub record Dialect : Type 0 where
   -- Why a data statement or a definition is refused before it wants anything: its least fault over a database, or
   -- that it may not stand in a read-only transaction
   pub refusal : Bool → Database → Text → Option Text
-  -- what a data statement comes to that isn't refused so
-  pub outcome : Bool → Database → Text → Outcome
+  -- what a data statement comes to that isn't refused so, where its transaction has inserted so many rows by then
+  pub outcome : Bool → ℕ → Database → Text → Outcome
   -- what a definition defines that isn't refused so, or the rows or foreign keys against which it is refused
   pub definition : Database → Text → Result Definition Text
   -- every constraint holds, and each row fits its columns
@@ -66,14 +66,14 @@ unless_refused (Some why) outcome = refused why
 
 -- What an entry comes to inside of an open transaction. A definition that isn't refused ends the transaction, as
 -- COMMIT and ROLLBACK do; of these three nothing is asked here.
-abbrev pub outcome_of : Dialect → Bool → Database → Text → Request → Outcome
-outcome_of d read_only db text (Faulty why) = refused why
-outcome_of d read_only db text OfData = unless_refused (d.refusal read_only db text) (d.outcome read_only db text)
-outcome_of d read_only db text OfDefinition = unless_refused (d.refusal read_only db text) nothing
-outcome_of d read_only db text (Starts modes) = refused open_transaction
-outcome_of d read_only db text Commits = nothing
-outcome_of d read_only db text RollsBack = nothing
-outcome_of d read_only db text (OnSettings control) = nothing
+abbrev pub outcome_of : Dialect → Bool → ℕ → Database → Text → Request → Outcome
+outcome_of d read_only inserted db text (Faulty why) = refused why
+outcome_of d read_only inserted db text OfData = unless_refused (d.refusal read_only db text) (d.outcome read_only inserted db text)
+outcome_of d read_only inserted db text OfDefinition = unless_refused (d.refusal read_only db text) nothing
+outcome_of d read_only inserted db text (Starts modes) = refused open_transaction
+outcome_of d read_only inserted db text Commits = nothing
+outcome_of d read_only inserted db text RollsBack = nothing
+outcome_of d read_only inserted db text (OnSettings control) = nothing
 
 abbrev pub accepted : Result Definition Text → Option Definition
 accepted (Ok definition) = Some definition
@@ -81,7 +81,7 @@ accepted (Err why) = None
 
 abbrev pub language_of : Dialect → Language
 language_of d = record {
-  outcome = λ read_only db text. outcome_of d read_only db text (d.request text);
+  outcome = λ read_only inserted db text. outcome_of d read_only inserted db text (d.request text);
   definition = λ db text. accepted (d.definition db text);
   is_valid = d.is_valid;
   describes = d.describes;

@@ -47,7 +47,7 @@ abbrev pub small : Dialect
 small = record {
   request = λ text. by_letter (letter text);
   refusal = λ read_only db text. None;
-  outcome = λ read_only db text. inserted (table_by (letter text));
+  outcome = λ read_only own db text. inserted (table_by (letter text));
   definition = λ db text. Ok (definition.SetDefaultLevel true);
   is_valid = λ db. true;
   describes = λ db changes feet. true;

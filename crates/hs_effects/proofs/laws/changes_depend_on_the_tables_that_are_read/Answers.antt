@@ -4,6 +4,6 @@ use Rattle.hs_effects.proofs.laws.changes_depend_on_the_tables_that_are_read.Goa
 pub returns : goal.returns
 returns c = record {
   insert = insert_same;
-  update = λ a b columns keys set update closed agree. update_same a b columns keys set closed agree update;
-  delete = λ a b columns keys set delete closed agree. delete_same a b columns keys set closed agree delete;
+  update = λ things a b columns keys update are agree. update_same a b columns keys things are update agree;
+  delete = λ things a b columns keys delete are agree. delete_same a b columns keys things are delete agree;
 }

@@ -4,4 +4,4 @@ use Rattle.hs_histories.specs.Inserting.{inserting}
 use Rattle.hs_histories.proofs.laws.the_laws_can_be_met.Goals as goal
 
 pub returns : goal.returns
-returns c = (inserting, inserting_is_lawful, λ db text. refl)
+returns c = (inserting, inserting_is_lawful, λ inserted db text. refl)

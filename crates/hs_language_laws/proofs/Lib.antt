@@ -1,0 +1,9 @@
+pub mod Catalogue
+pub mod Frame
+pub mod Framed
+pub mod Linked
+pub mod Lists
+pub mod Shapes
+pub mod Sql
+pub mod Tables
+pub mod Touching
