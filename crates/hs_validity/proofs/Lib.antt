@@ -15,6 +15,8 @@ pub mod Merging
 pub mod More
 pub mod Moved
 pub mod Numbered
+pub mod Placed
+pub mod Proper
 pub mod Renamed
 pub mod Standing
 pub mod Telling

@@ -28,9 +28,10 @@ use Rattle.hs_language.specs.Sound.{has_fitting_default}
 use Rattle.hs_language.specs.Sql.{is_valid}
 use Rattle.hs_validity.specs.Inside.{IsInside}
 use Rattle.hs_language.specs.Validity.{puts_long, touched_by, types_in}
-use Rattle.hs_validity.proofs.Added.{IsProper, described_more, valid_more}
+use Rattle.hs_validity.proofs.Added.{described_more, valid_more}
 use Rattle.hs_validity.proofs.Judged.{IsValid, valid_from}
 use Rattle.hs_validity.proofs.Numbered.{known_in, valid_parts, valid_whole}
+use Rattle.hs_validity.proofs.Proper.{IsProper}
 use Rattle.hs_validity.proofs.Standing.{fitting_in}
 use Rattle.hs_validity.proofs.Tentative.{IsStanding, all_standing}
 use Rattle.hs_validity.proofs.Typed.{all_typed, columns_fitting}

@@ -25,7 +25,8 @@ use Rattle.hs_validity.proofs.Finals.{Seen, seen_as}
 use Rattle.hs_validity.proofs.Judged.{IsValid, valid_from, valid_to, valid_with}
 use Rattle.hs_validity.proofs.Knowing.{names_later, names_to, set_known}
 use Rattle.hs_validity.proofs.Lists.{all_at, all_from, any_found, any_from}
-use Rattle.hs_validity.proofs.Merging.{IsFirsts, IsLeft, IsSeconds, Told, each_row, met_both}
+use Rattle.hs_validity.proofs.Merging.{each_row, met_both}
+use Rattle.hs_validity.proofs.Placed.{IsFirsts, IsLeft, IsSeconds, Told}
 use Rattle.hs_validity.proofs.Numbered.{known_in, still_numbered, things_stay, valid_committed, valid_parts, valid_whole}
 use Rattle.hs_validity.proofs.Standing.{placed_in, referenced_in}
 use Rattle.hs_validity.proofs.Telling.{Tells, clear_children, clear_keys, clear_parents, clear_rows, teller_of, told_where_set}

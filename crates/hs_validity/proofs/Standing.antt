@@ -21,7 +21,7 @@ use Rattle.hs_sentences.specs.Violations.{constraints_of}
 use Rattle.hs_footprint.specs.Touched.{are_same, has_all, key_columns, key_over}
 use Rattle.hs_language.specs.Sound.{has_fitting_default, is_owned, is_sound, is_sound_constraint, is_sound_rule, is_whole, references_key_of}
 use Rattle.hs_validity.proofs.Lists.{all_at, get_contained, in_flat, in_mapped, to_flat}
-use Rattle.hs_validity.proofs.Merging.{AllPlaced, AllReferenced, Placed, Referenced}
+use Rattle.hs_validity.proofs.Placed.{AllPlaced, AllReferenced, Placed, Referenced}
 
 -- ---- tables
 

@@ -19,7 +19,7 @@ use Rattle.hs_language.specs.Described.{parents_named_by, table_of, tell_key, te
 use Rattle.hs_validity.proofs.Across.{not_across}
 use Rattle.hs_validity.proofs.Equal.{same_through, same_turned}
 use Rattle.hs_validity.proofs.Lists.{all_at, any_found}
-use Rattle.hs_validity.proofs.Merging.{NoCommon, Teller, Told, named_of}
+use Rattle.hs_validity.proofs.Placed.{NoCommon, Teller, Told, named_of}
 
 -- ---- equal keys are told alike
 

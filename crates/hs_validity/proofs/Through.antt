@@ -13,7 +13,7 @@ use Rattle.hs_schema.specs.Catalogue.{Things, table_numbered}
 use Rattle.hs_schema.specs.declared.table.Table.{Table}
 use Rattle.hs_footprint.specs.Touched.{key_columns, key_name, key_of, keys_at, keys_between, keys_from, keys_over}
 use Rattle.hs_validity.proofs.Equal.{same_through, same_turned}
-use Rattle.hs_validity.proofs.Merging.{IsAlike, Teller, Told, number_at}
+use Rattle.hs_validity.proofs.Placed.{IsAlike, Teller, Told, number_at}
 
 -- ---- one key
 

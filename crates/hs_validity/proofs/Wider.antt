@@ -16,7 +16,7 @@ use Rattle.hs_footprint.specs.Touched.{keys_at}
 use Rattle.hs_database.specs.Database.{Database}
 use Rattle.hs_language.specs.Described.{described, names_known, tell_key, tell_parent, tell_row, tell_setting, tell_table}
 use Rattle.hs_validity.proofs.Lists.{all_weaker}
-use Rattle.hs_validity.proofs.Merging.{named_of, number_at}
+use Rattle.hs_validity.proofs.Placed.{named_of, number_at}
 use Rattle.hs_validity.proofs.Telling.{Tells, tells_from, tells_to}
 
 -- what one list of footprints tells, another tells too

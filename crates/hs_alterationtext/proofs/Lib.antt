@@ -1,0 +1,2 @@
+pub mod AlterationLemmas
+pub mod AlterLemmas

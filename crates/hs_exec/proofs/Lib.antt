@@ -1,0 +1,4 @@
+pub mod Alike
+pub mod Given
+pub mod Same
+pub mod Worked

@@ -1,0 +1,4 @@
+pub mod Made
+pub mod Naming
+pub mod PlainLemmas
+pub mod IndexLemmas

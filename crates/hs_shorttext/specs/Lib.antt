@@ -1,0 +1,4 @@
+pub mod Tables
+pub mod Indexes
+pub mod Settings
+pub mod Plain
