@@ -1,0 +1,4 @@
+pub mod DefinitionLemmas
+pub mod ChangeLemmas
+pub mod OneText
+pub mod Printable
