@@ -1,0 +1,13 @@
+pub mod Alone
+pub mod Ends
+pub mod Handing
+pub mod Holding
+pub mod Lines
+pub mod Moving
+pub mod Named
+pub mod Prefixes
+pub mod Steps
+pub mod Stops
+pub mod Taken
+pub mod Whole
+pub mod Used

@@ -1,0 +1,9 @@
+pub mod Crash
+pub mod Holding
+pub mod Items
+pub mod Lines
+pub mod Outgoing
+pub mod Pieces
+pub mod Running
+pub mod Stop
+pub mod Used

@@ -1,0 +1,98 @@
+-- What a run at work stands for, and how it goes on.
+use Rattle.std.specs.Prelude.{◌≡◌, ℕ, ◌+◌, true, List, [], ◌++◌, length, None, Result, OnOk}
+use Rattle.hs_host.specs.declared.source.Source as source
+use Rattle.hs_host.specs.declared.host.Host as host
+use Rattle.hs_host.specs.Files.{IsOpen}
+use Rattle.hs_host.specs.Moments.{Since}
+use Rattle.hs_host.specs.Used.{Told}
+use Rattle.hs_entries.specs.declared.item.Item.{Item}
+use Rattle.hs_entries.specs.Left.{RunsOut, KeepsRoom}
+use Rattle.hs_entries.specs.declared.reader.EntryReader.{EntryReader}
+use Rattle.hs_entries.specs.Reader.{AgreesWith, ahead as reader_ahead, has_ended, kept as fault_kept, left as input_left, left_items, left_whole, next_number, room}
+use Rattle.hs_log.specs.declared.log.Log.{Log}
+use Rattle.hs_log.specs.Log.{IsLog, epoch_in}
+use Rattle.hs_run.specs.declared.running.Running.{Running}
+use Rattle.hs_run.specs.declared.stop.Stop.{Stop}
+use Rattle.hs_run.specs.declared.turns.Turns as turns
+use Rattle.hs_run.specs.Crash.{IsHeld, texts_in}
+use Rattle.hs_run.specs.Holding.{WritesPrefix}
+use Rattle.hs_run.specs.Items.{AreNamed}
+use Rattle.hs_run.specs.Outgoing.{IsServing, IsTelling}
+use Rattle.hs_run.specs.Pieces.{Piece, AreTrue, told_by, made_by}
+use Rattle.hs_run.specs.Used.{TakesTurns}
+
+module _ {T : Type 0} (t : turns.Ghosts T) where
+  -- all pieces that are left over these items to the end of the run
+  abbrev pub pieces : T → List Item → List Piece
+  pieces turns items = t.taken turns items ++ t.closing turns items
+
+  -- the same for a run that has so much of its input unread
+  abbrev pub ahead : Running T → List ℕ → List Piece
+  ahead r unread = pieces r.turns (left_items r.reader unread)
+
+  -- those that come with the items that are whole within the limit of the input
+  abbrev pub ahead_within : Running T → List ℕ → List Piece
+  ahead_within r unread = t.taken r.turns (left_whole r.reader unread)
+
+  -- over any items whose sessions have names no piece tells of a commit that isn't made
+  abbrev pub IsTrue : T → Type 0
+  IsTrue turns = (items : List Item) → AreNamed items → AreTrue (t.commits turns) (pieces turns items)
+
+-- the input goes beyond the bytes that may be used
+abbrev pub IsTooLong : {T : Type 0} → Running T → List ℕ → Type 0
+IsTooLong r unread = RunsOut (input_left r.reader unread)
+
+-- The run may go on: what goes out does, what is left to be told is true, and the commits of turns are those that are logged or
+-- gathered.
+pub record IsSane {T H : Type 0} (t : turns.Ghosts T) (s : source.Ghosts H) (g : host.Ghosts H) (r : Running T) (h : H) : Type 0 where
+  pub serving : IsServing s g r.outgoing h
+  pub is_true : s.tells → AreTrue (t.commits r.turns) (ahead t r (s.unread h))
+  pub counted : Told s g h → t.commits r.turns ≡ length (texts_in (g.files h)) + length r.outgoing.gathered.made
+
+-- A run may begin: the host's files are open, the log is of the first epoch and kept as it is, also on the disk, what turns tell over
+-- any items is true, and each of their commits is one of its texts.
+pub record IsBeginning {T H : Type 0} (t : turns.Ghosts T) (s : source.Ghosts H) (g : host.Ghosts H) (turns : T) (log : Log) (h : H) : Type 0 where
+  pub opened : IsOpen (g.standing h)
+  pub epoch : epoch_in log ≡ 1
+  pub kept : Told s g h → IsLog (g.history h) (g.files h) log
+  pub is_true : IsTrue t turns
+  pub counted : Told s g h → t.commits turns ≡ length (texts_in (g.files h))
+
+-- The reader of a run keeps no fault.
+pub record IsReading {T H : Type 0} (s : source.Ghosts H) (r : Running T) (h : H) : Type 0 where
+  pub kept : fault_kept r.reader ≡ None
+  pub agrees : s.tells → AgreesWith r.reader (s.unread h)
+
+-- a reader has the same ahead of it, and keeps what it kept
+pub record IsSameReader (old new : EntryReader) : Type 0 where
+  pub left : (rest : List ℕ) → input_left new rest ≡ input_left old rest
+  pub ahead : reader_ahead new ≡ reader_ahead old
+  pub room : room new ≡ room old
+  pub number : next_number new ≡ next_number old
+  pub kept : fault_kept new ≡ fault_kept old
+  pub ended : has_ended new ≡ has_ended old
+
+-- The input is at its end, and all of it was taken.
+pub record IsOver (r : EntryReader) : Type 0 where
+  pub ended : has_ended r ≡ true
+  pub none : reader_ahead r ≡ []
+
+-- What is left to be told and logged is what was left before, with what is gathered; and the reader counts what it takes.
+pub record GoesOn {T H : Type 0} (t : turns.Ghosts T) (s : source.Ghosts H) (g : host.Ghosts H) (old_run : Running T) (old : H) (new_run : Running T) (new : H) : Type 0 where
+  pub told : s.tells → g.written new ++ (new_run.outgoing.gathered.told ++ told_by (ahead t new_run (s.unread new))) ≡ g.written old ++ (old_run.outgoing.gathered.told ++ told_by (ahead t old_run (s.unread old)))
+  pub within : s.tells → IsTooLong old_run (s.unread old)
+      → g.written new ++ (new_run.outgoing.gathered.told ++ told_by (ahead_within t new_run (s.unread new))) ≡ g.written old ++ (old_run.outgoing.gathered.told ++ told_by (ahead_within t old_run (s.unread old)))
+  pub made : Told s g old → texts_in (g.files new) ++ (new_run.outgoing.gathered.made ++ made_by (ahead t new_run (s.unread new))) ≡ texts_in (g.files old) ++ (old_run.outgoing.gathered.made ++ made_by (ahead t old_run (s.unread old)))
+  pub commits : s.tells → t.commits new_run.turns + length (made_by (ahead t new_run (s.unread new))) ≡ t.commits old_run.turns + length (made_by (ahead t old_run (s.unread old)))
+  pub count : s.tells → KeepsRoom (input_left old_run.reader (s.unread old)) (input_left new_run.reader (s.unread new))
+
+-- A part of a run: whatever it ends with, a prefix of what was left to be told was written, and a crash at each moment leaves a log
+-- of what was logged and a front of what was left to be logged. Where it doesn't stop, the run goes on.
+pub record MovesOn {R T H : Type 0} (t : turns.Ghosts T) (s : source.Ghosts H) (g : host.Ghosts H) (old_run : Running T) (old : H) (new_run : Running T) (new : H) (result : Result R Stop) : Type 0 where
+  pub sane : OnOk result (IsSane t s g new_run new)
+  pub goes_on : OnOk result (GoesOn t s g old_run old new_run new)
+  pub telling : Told s g old → (least : ℕ) (before : List ℕ) → IsTelling least before g old_run.outgoing old → OnOk result (IsTelling least before g new_run.outgoing new)
+  pub front : s.tells → WritesPrefix (g.written old) (g.written new) (old_run.outgoing.gathered.told ++ told_by (ahead t old_run (s.unread old)))
+  pub moments : Told s g old → (least : ℕ) (before : List ℕ) → IsTelling least before g old_run.outgoing old
+      → Since (IsHeld least (texts_in (g.files old) ++ (old_run.outgoing.gathered.made ++ made_by (ahead t old_run (s.unread old)))) before) (g.history old) (g.history new)
+  pub ends : TakesTurns s g old new result

@@ -1,0 +1,213 @@
+// A run at work.
+ghost use Rattle.std.specs.Prelude.{◌≡◌, ◌<◌, ◌≤◌, ◌++◌, [], None, true, false, IfOk, IsErrOf, OnOk};
+ghost use Rattle.hs_entries.specs.Left.{IsBeyond};
+ghost use Rattle.hs_entries.specs.Reader.{AgreesWith, kept, left, room};
+ghost use Rattle.hs_entries.specs.Taking.{Counts, TakesItem};
+ghost use Rattle.hs_entries.specs.Calls.{HasInputCause};
+ghost use Rattle.hs_host.specs.Used.{UsesInput};
+ghost use Rattle.hs_run.specs.Items.{is_end};
+ghost use Rattle.hs_run.specs.Pieces.{told_by};
+ghost use Rattle.hs_run.specs.Running.{IsOver, IsReading, IsSameReader, IsSane, IsTooLong, MovesOn, ahead_within, pieces};
+
+use crate::outgoing::Outgoing;
+use crate::stop::Stop;
+use crate::turns::Turns;
+use hs_entries::{EntryReader, InputFault, Item};
+use hs_host::Host;
+use std::alloc::AllocError;
+
+/// A run at work: the reader of its input, what takes turns, and what goes out.
+#[derive(Drop)]
+pub struct Running<T> {
+    pub reader: EntryReader,
+    pub turns: T,
+    pub outgoing: Outgoing,
+}
+
+impl<T: Turns> Running<T> {
+    // Gathers the next piece that needs no more of the input, and answers whether there was one.
+    fn step<H: Host>(&mut self, host: &mut H) -> Result<bool, Stop>
+        requires sane { IsSane T.Turns H.Source H.Host.own self.old host.old }
+        ensures moves { MovesOn T.Turns H.Source H.Host.own self.old host.old self.new host.new result }
+        ensures weight { IfOk result (λ more. more ≡ true → T.weight self.new.turns < T.weight self.old.turns) }
+        ensures rests { IfOk result (λ more. more ≡ false → T.rests self.new.turns × (self.new.turns ≡ self.old.turns)) }
+        ensures reader { self.new.reader ≡ self.old.reader }
+        ensures unread { H.unread host.new ≡ H.unread host.old }
+        ensures short { IsErrOf result Stop.TooLong → ⊥ }
+    {
+        match self.turns.step(&mut self.outgoing.gathered) {
+            Ok(false) => Ok(false),
+            Ok(true) => {
+                self.outgoing.mark();
+                self.outgoing.hand_over_when_large(host)?;
+                Ok(true)
+            }
+            Err(AllocError) => Err(self.outgoing.wanting(host)),
+        }
+    }
+
+    // Gathers all pieces that need no more of the input.
+    fn settle<H: Host>(&mut self, host: &mut H) -> Result<(), Stop>
+        requires sane { IsSane T.Turns H.Source H.Host.own self.old host.old }
+        ensures moves { MovesOn T.Turns H.Source H.Host.own self.old host.old self.new host.new result }
+        ensures rests { OnOk result (T.rests self.new.turns) }
+        ensures reader { self.new.reader ≡ self.old.reader }
+        ensures unread { H.unread host.new ≡ H.unread host.old }
+        ensures weight { OnOk result (T.weight self.new.turns ≤ T.weight self.old.turns) }
+        ensures short { IsErrOf result Stop.TooLong → ⊥ }
+    {
+        while self.step(host)? {}
+        Ok(())
+    }
+
+    // Hands over what is gathered, unless the next item is at hand.
+    fn ready<H: Host>(&mut self, host: &mut H) -> Result<(), Stop>
+        requires sane { IsSane T.Turns H.Source H.Host.own self.old host.old }
+        ensures moves { MovesOn T.Turns H.Source H.Host.own self.old host.old self.new host.new result }
+        ensures turns { self.new.turns ≡ self.old.turns }
+        ensures reader { IsSameReader self.old.reader self.new.reader }
+        ensures unread { H.unread host.new ≡ H.unread host.old }
+        ensures short { IsErrOf result Stop.TooLong → ⊥ }
+    {
+        if self.reader.is_ready() {
+            return Ok(());
+        }
+        self.outgoing.hand_over(host)
+    }
+
+    // Reads the next item and takes it, with the first piece that comes with it. Answers whether there was one.
+    fn advance<H: Host>(&mut self, host: &mut H) -> Result<bool, Stop>
+        requires sane { IsSane T.Turns H.Source H.Host.own self.old host.old }
+        requires rests { T.rests self.old.turns }
+        requires reading { IsReading H.Source self.old host.old }
+        ensures moves { MovesOn T.Turns H.Source H.Host.own self.old host.old self.new host.new result }
+        ensures reading { OnOk result (IsReading H.Source self.new host.new) }
+        ensures more { IfOk result (λ more. more ≡ true → room self.new.reader < room self.old.reader) }
+        ensures over { IfOk result (λ more. more ≡ false → IsOver self.new.reader × T.rests self.new.turns) }
+        ensures too_long { H.tells → IsErrOf result Stop.TooLong → IsTooLong self.old (H.unread host.old) × (H.written host.new ≡ H.written host.old ++ (self.old.outgoing.gathered.told ++ told_by (ahead_within T.Turns self.old (H.unread host.old)))) }
+    {
+        let item = match read_next(&mut self.reader, host) {
+            Ok(item) => item,
+            Err(InputFault::Fault) => return Err(Stop::Input),
+            Err(InputFault::TooLong) => return Err(self.outgoing.cut(host)),
+            Err(InputFault::NoMemory) => return Err(self.outgoing.wanting(host)),
+        };
+        if ends(&item) {
+            return Ok(false);
+        }
+        match self.turns.take(item, &mut self.outgoing.gathered) {
+            Ok(()) => {
+                self.outgoing.mark();
+                self.outgoing.hand_over_when_large(host)?;
+                Ok(true)
+            }
+            Err(AllocError) => Err(self.outgoing.wanting(host)),
+        }
+    }
+
+    // Gathers the next piece that comes at the end of the input, and answers whether there was one.
+    fn close<H: Host>(&mut self, host: &mut H) -> Result<bool, Stop>
+        requires sane { IsSane T.Turns H.Source H.Host.own self.old host.old }
+        requires rests { T.rests self.old.turns }
+        requires over { IsOver self.old.reader }
+        ensures moves { MovesOn T.Turns H.Source H.Host.own self.old host.old self.new host.new result }
+        ensures weight { IfOk result (λ more. more ≡ true → T.weight self.new.turns < T.weight self.old.turns) }
+        ensures none { IfOk result (λ more. more ≡ false → pieces T.Turns self.new.turns [] ≡ []) }
+        ensures reader { self.new.reader ≡ self.old.reader }
+        ensures unread { H.unread host.new ≡ H.unread host.old }
+        ensures short { IsErrOf result Stop.TooLong → ⊥ }
+    {
+        match self.turns.close(&mut self.outgoing.gathered) {
+            Ok(false) => Ok(false),
+            Ok(true) => {
+                self.outgoing.mark();
+                self.outgoing.hand_over_when_large(host)?;
+                Ok(true)
+            }
+            Err(AllocError) => Err(self.outgoing.wanting(host)),
+        }
+    }
+
+    // Takes the next item, with what comes before it. Answers whether there was one.
+    fn turn<H: Host>(&mut self, host: &mut H) -> Result<bool, Stop>
+        requires sane { IsSane T.Turns H.Source H.Host.own self.old host.old }
+        requires reading { IsReading H.Source self.old host.old }
+        ensures moves { MovesOn T.Turns H.Source H.Host.own self.old host.old self.new host.new result }
+        ensures reading { OnOk result (IsReading H.Source self.new host.new) }
+        ensures more { IfOk result (λ more. more ≡ true → room self.new.reader < room self.old.reader) }
+        ensures over { IfOk result (λ more. more ≡ false → IsOver self.new.reader) }
+        ensures too_long { H.tells → IsErrOf result Stop.TooLong → IsTooLong self.old (H.unread host.old) × (H.written host.new ≡ H.written host.old ++ (self.old.outgoing.gathered.told ++ told_by (ahead_within T.Turns self.old (H.unread host.old)))) }
+    {
+        self.settle(host)?;
+        self.ready(host)?;
+        self.advance(host)
+    }
+
+    /// Takes all items of the input.
+    pub fn take_all<H: Host>(&mut self, host: &mut H) -> Result<(), Stop>
+        requires sane { IsSane T.Turns H.Source H.Host.own self.old host.old }
+        requires reading { IsReading H.Source self.old host.old }
+        ensures moves { MovesOn T.Turns H.Source H.Host.own self.old host.old self.new host.new result }
+        ensures reading { OnOk result (IsReading H.Source self.new host.new) }
+        ensures over { OnOk result (IsOver self.new.reader) }
+        ensures too_long { H.tells → IsErrOf result Stop.TooLong → IsTooLong self.old (H.unread host.old) × (H.written host.new ≡ H.written host.old ++ (self.old.outgoing.gathered.told ++ told_by (ahead_within T.Turns self.old (H.unread host.old)))) }
+    {
+        while self.turn(host)? {}
+        Ok(())
+    }
+
+    // Gathers the next piece that comes at the end of the input, with what comes before it. Answers whether there was one.
+    fn ending<H: Host>(&mut self, host: &mut H) -> Result<bool, Stop>
+        requires sane { IsSane T.Turns H.Source H.Host.own self.old host.old }
+        requires over { IsOver self.old.reader }
+        ensures moves { MovesOn T.Turns H.Source H.Host.own self.old host.old self.new host.new result }
+        ensures weight { IfOk result (λ more. more ≡ true → T.weight self.new.turns < T.weight self.old.turns) }
+        ensures none { IfOk result (λ more. more ≡ false → pieces T.Turns self.new.turns [] ≡ []) }
+        ensures reader { self.new.reader ≡ self.old.reader }
+        ensures unread { H.unread host.new ≡ H.unread host.old }
+        ensures short { IsErrOf result Stop.TooLong → ⊥ }
+    {
+        self.settle(host)?;
+        self.close(host)
+    }
+
+    /// Gathers all that comes at the end of the input.
+    pub fn close_all<H: Host>(&mut self, host: &mut H) -> Result<(), Stop>
+        requires sane { IsSane T.Turns H.Source H.Host.own self.old host.old }
+        requires over { IsOver self.old.reader }
+        ensures moves { MovesOn T.Turns H.Source H.Host.own self.old host.old self.new host.new result }
+        ensures none { OnOk result (pieces T.Turns self.new.turns [] ≡ []) }
+        ensures reader { self.new.reader ≡ self.old.reader }
+        ensures unread { H.unread host.new ≡ H.unread host.old }
+        ensures short { IsErrOf result Stop.TooLong → ⊥ }
+    {
+        while self.ending(host)? {}
+        Ok(())
+    }
+}
+
+fn ends(item: &Item) -> bool
+    ensures { result ≡ is_end item.now }
+{
+    match item {
+        Item::End => true,
+        Item::Entry { .. } => false,
+        Item::Bad { .. } => false,
+        Item::TooLong { .. } => false,
+    }
+}
+
+// The next item of the input. Nothing but the input is changed.
+fn read_next<H: Host>(reader: &mut EntryReader, host: &mut H) -> Result<Item, InputFault>
+    requires { kept reader.old ≡ None }
+    ensures sound { OnOk result (kept reader.new ≡ None) }
+    ensures items { H.tells → IfOk result (λ item. TakesItem reader.old (H.unread host.old) item reader.new (H.unread host.new)) }
+    ensures counts { IfOk result (λ item. Counts reader.old item reader.new) }
+    ensures agrees { H.tells → AgreesWith reader.old (H.unread host.old) → AgreesWith reader.new (H.unread host.new) }
+    ensures too_long { H.tells → IsErrOf result InputFault.TooLong → IsBeyond (left reader.old (H.unread host.old)) }
+    ensures uses { UsesInput H.Source H.Host.own host.old host.new }
+    ensures cause { HasInputCause (H.input_faults host.old) (H.input_faults host.new) result }
+    ensures later { H.input_faults host.old ≤ H.input_faults host.new }
+{
+    reader.next(host)
+}
