@@ -1,0 +1,4 @@
+pub mod Sets
+pub mod Touching
+pub mod Undoing
+pub mod Violating

@@ -1,0 +1,5 @@
+pub mod LineLemmas
+pub mod RowLemmas
+pub mod FormLemmas
+pub mod TextLemmas
+pub mod OneText

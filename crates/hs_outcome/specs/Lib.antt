@@ -1,0 +1,4 @@
+pub mod Counted
+pub mod Given
+pub mod Lawful
+pub mod Same

@@ -1,0 +1,5 @@
+pub mod Earliest
+pub mod Held
+pub mod Lists
+pub mod Numbers
+pub mod Queue

@@ -1,0 +1,4 @@
+//! The statement that a text is, as a function. It has laws alone, on functions that do nothing.
+#![tactic(auto)]
+
+pub mod laws;
