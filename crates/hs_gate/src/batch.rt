@@ -48,6 +48,16 @@ impl Batch {
         Ok(())
     }
 
+    /// Puts the groups of another batch behind these. After an `Err`, which is want of memory, nothing is changed.
+    pub fn append(&mut self, more: &Batch) -> Result<(), AllocError>
+        ensures ok { OnOk result (self.new ≡ self.old ++ more.now) }
+        ensures err { OnErr result (self.new ≡ self.old) }
+    {
+        push_bytes(&mut self.bytes, &more.bytes)?;
+        self.count += more.count;
+        Ok(())
+    }
+
     /// How many groups there are.
     pub fn count(&self) -> u64
         ensures { result ≡ length self.now }
@@ -103,4 +113,13 @@ fn push_group(bytes: &mut Vec<u8>, payload: &[u8]) -> Result<(), AllocError>
         return Err(error);
     }
     Ok(())
+}
+
+// Puts bytes behind others. After an `Err`, which is want of memory, nothing is changed.
+fn push_bytes(bytes: &mut Vec<u8>, more: &[u8]) -> Result<(), AllocError>
+    ensures ok { OnOk result (bytes.new.items ≡ bytes.old.items ++ more.now) }
+    ensures err { OnErr result (bytes.new.items ≡ bytes.old.items) }
+    ensures fits { length bytes.new.items < 2 ^ 64 }
+{
+    bytes.extend_from_slice(more)
 }

@@ -1,4 +1,7 @@
 // An entry of a session.
+ghost use Rattle.std.specs.Prelude.{◌≡◌, ◌<◌, ◌^◌, true, length};
+ghost use Rattle.hs_entries.specs.Entry.{is_session};
+
 use hs_base::SessionNo;
 use hs_values::{Chars, Name};
 
@@ -13,4 +16,6 @@ pub struct Entry {
     pub name: Name,
     /// The statement: what stands behind the colon, up to and with the `;`.
     pub text: Chars,
+    pub ghost named: { is_session name ≡ true },
+    pub ghost short: { length text < 2 ^ 32 },
 }

@@ -1,10 +1,10 @@
 pub mod Alone
 pub mod Ends
+pub mod Given
 pub mod Handing
 pub mod Holding
 pub mod Lines
 pub mod Moving
-pub mod Named
 pub mod Prefixes
 pub mod Steps
 pub mod Stops

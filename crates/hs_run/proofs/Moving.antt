@@ -21,7 +21,8 @@ use Rattle.hs_run.specs.Crash.{IsHeld, texts_in}
 use Rattle.hs_run.specs.Holding.{IsGathered, WritesPrefix}
 use Rattle.hs_run.specs.Outgoing.{HandsOn, IsServing, IsTelling, failing, standing_with}
 use Rattle.hs_run.specs.Pieces.{AreTrue, Gives, Piece, told_by, made_by}
-use Rattle.hs_run.specs.Running.{GoesOn, IsSane, IsTooLong, MovesOn, ahead, ahead_within, pieces}
+use Rattle.hs_run.specs.Future.{Counts, Future}
+use Rattle.hs_run.specs.Running.{EndsWithin, Follows, GoesOn, HasNext, IsSane, IsTooLong, MovesOn, ahead, ahead_within, pieces}
 use Rattle.hs_run.specs.Stop.{NoFaults, RunStops}
 use Rattle.hs_run.proofs.Holding.{handed_reading, held_telling}
 use Rattle.hs_run.proofs.Lines.{append_tells}
@@ -38,18 +39,17 @@ module _ {T H : Type 0} (t : turns.Ghosts T) (s : source.Ghosts H) (g : host.Gho
   done x = Ok x
 
   -- nothing is done
-  pub moves_none : {R : Type 0} (r : Running T) (h : H) (x : R) → IsSane t s g r h → MovesOn t s g r h r h (done x)
-  moves_none {R} r h x sane = record {
-    sane = sane;
-    goes_on = record { told = λ _. refl; within = λ _ _. refl; made = λ _. refl; commits = λ _. refl; count = λ _. omega arith };
+  pub moves_none : {R : Type 0} (r : Running T) (h : H) (x : R) → MovesOn t s g r h r h (done x)
+  moves_none {R} r h x = λ f sane. record {
+    next = record { future = f; sane = sane; goes_on = record { told = λ _. refl; within = λ _ _. refl; made = λ _. refl; commits = λ _. refl; count = λ _. omega arith } };
     telling = λ _ least before tell. tell;
     front = λ _. nothing_yet (g.written h) _;
     moments = λ _ least before tell. since_none _ (g.history h);
     ends = turns_none h x;
   }
 
-  goes_further : (a b c : Running T) (h0 h1 h2 : H) → (Told s g h0 → Told s g h1) → GoesOn t s g a h0 b h1 → GoesOn t s g b h1 c h2 → GoesOn t s g a h0 c h2
-  goes_further a b c h0 h1 h2 still ab bc = record {
+  goes_further : (f0 f1 f2 : Future) (a b c : Running T) (h0 h1 h2 : H) → (Told s g h0 → Told s g h1) → GoesOn s g f0 a h0 f1 b h1 → GoesOn s g f1 b h1 f2 c h2 → GoesOn s g f0 a h0 f2 c h2
+  goes_further f0 f1 f2 a b c h0 h1 h2 still ab bc = record {
     told = λ tells. bc.told tells ∙ ab.told tells;
     within = λ tells more. let later : IsTooLong b (s.unread h1) = omega (arith, more, ab.count tells) in bc.within tells later ∙ ab.within tells more;
     made = λ told. bc.made (still told) ∙ ab.made told;
@@ -57,97 +57,114 @@ module _ {T H : Type 0} (t : turns.Ghosts T) (s : source.Ghosts H) (g : host.Gho
     count = λ tells. omega (arith, ab.count tells, bc.count tells);
   }
 
+  next_on : (f : Future) (a b c : Running T) (h0 h1 h2 : H) → (Told s g h0 → Told s g h1) → (ab : HasNext t s g f a h0 b h1) → HasNext t s g ab.future b h1 c h2 → HasNext t s g f a h0 c h2
+  next_on f a b c h0 h1 h2 still ab bc = record { future = bc.future; sane = bc.sane; goes_on = goes_further f ab.future bc.future a b c h0 h1 h2 still ab.goes_on bc.goes_on }
+
   -- one part behind another that didn't stop
   pub moves_on : {R S : Type 0} (a b c : Running T) (h0 h1 h2 : H) (x : S) (result : Result R Stop) → MovesOn t s g a h0 b h1 (done x) → MovesOn t s g b h1 c h2 result → MovesOn t s g a h0 c h2 result
-  moves_on {R} {S} a b c h0 h1 h2 x result ab bc = record {
-    sane = bc.sane;
-    goes_on = ok_weaker result (goes_further a b c h0 h1 h2 (told_on_log ab.ends.uses) ab.goes_on) bc.goes_on;
-    telling = λ told least before tell. bc.telling (told_on_log ab.ends.uses told) least before (ab.telling told least before tell);
-    front = λ tells. front_after (g.written h0) (g.written h1) (g.written h2) _ _ (ab.goes_on.told tells) (ab.front tells).grown (bc.front tells);
-    moments = λ told least before tell.
-        since_join (ab.moments told least before tell)
-        (subst (λ (ts : List (List ℕ)). Since (IsHeld least ts before) (g.history h1) (g.history h2)) (ab.goes_on.made told) (bc.moments (told_on_log ab.ends.uses told) least before (ab.telling told least before tell)));
-    ends = turns_on result ab.ends.uses ab.ends.calm bc.ends;
-  }
+  moves_on {R} {S} a b c h0 h1 h2 x result first then = λ f sane.
+      let ab = first f sane in
+      let bc = then ab.next.future ab.next.sane in
+      record {
+        next = ok_weaker result (next_on f a b c h0 h1 h2 (told_on_log ab.ends.uses) ab.next) bc.next;
+        telling = λ told least before tell. bc.telling (told_on_log ab.ends.uses told) least before (ab.telling told least before tell);
+        front = λ tells. front_after (g.written h0) (g.written h1) (g.written h2) _ _ (ab.next.goes_on.told tells) (ab.front tells).grown (bc.front tells);
+        moments = λ told least before tell.
+            since_join (ab.moments told least before tell)
+            (subst (λ (ts : List (List ℕ)). Since (IsHeld least ts before) (g.history h1) (g.history h2)) (ab.next.goes_on.made told) (bc.moments (told_on_log ab.ends.uses told) least before (ab.telling told least before tell)));
+        ends = turns_on result ab.ends.uses ab.ends.calm bc.ends;
+      }
+
+  -- the input is too long behind a part that didn't stop
+  pub ends_on : {S : Type 0} (a b : Running T) (h0 h1 h2 : H) (x : S) → s.tells → MovesOn t s g a h0 b h1 (done x) → EndsWithin t s g b h1 h2 → EndsWithin t s g a h0 h2
+  ends_on {S} a b h0 h1 h2 x tells first then = λ f sane.
+      let ab = (first f sane).next in
+      let long = then ab.future ab.sane in
+      let more : IsTooLong a (s.unread h0) = omega (arith, long.0, ab.goes_on.count tells) in
+      (more, long.1 ∙ ab.goes_on.within tells more)
 
   -- an error that is handed on
   pub moves_failing : {R S : Type 0} (a b : Running T) (h0 h1 : H) (stop : Stop) (result : Result R Stop) → IsErrAnd result (λ e. e ≡ stop) → MovesOn {R = S} t s g a h0 b h1 (Err stop) → MovesOn t s g a h0 b h1 result
-  moves_failing a b h0 h1 stop result is ab = record {
-    sane = not_ok _ result stop is;
-    goes_on = not_ok _ result stop is;
-    telling = λ told least before tell. not_ok _ result stop is;
-    front = ab.front;
-    moments = ab.moments;
-    ends = record { uses = ab.ends.uses; calm = not_ok _ result stop is; stops = stopped_by (RunStops s g h0 h1) result stop is ab.ends.stops };
-  }
+  moves_failing a b h0 h1 stop result is moves = λ f sane.
+      let ab = moves f sane in
+      record {
+        next = not_ok _ result stop is;
+        telling = λ told least before tell. not_ok _ result stop is;
+        front = ab.front;
+        moments = ab.moments;
+        ends = record { uses = ab.ends.uses; calm = not_ok _ result stop is; stops = stopped_by (RunStops s g h0 h1) result stop is ab.ends.stops };
+      }
 
   -- with another answer
   pub moves_over : {R S : Type 0} (a b : Running T) (h0 h1 : H) (x : S) (y : R) → MovesOn t s g a h0 b h1 (done x) → MovesOn t s g a h0 b h1 (done y)
-  moves_over a b h0 h1 x y ab = record {
-    sane = ab.sane;
-    goes_on = ab.goes_on;
-    telling = ab.telling;
-    front = ab.front;
-    moments = ab.moments;
-    ends = record { uses = ab.ends.uses; calm = ab.ends.calm; stops = tt };
-  }
+  moves_over a b h0 h1 x y moves = λ f sane.
+      let ab = moves f sane in
+      record {
+        next = ab.next;
+        telling = ab.telling;
+        front = ab.front;
+        moments = ab.moments;
+        ends = record { uses = ab.ends.uses; calm = ab.ends.calm; stops = tt };
+      }
 
   -- commits that are counted stay counted where what is gathered goes out
-  counted_on : (old new : List (List ℕ)) (made left : List (List ℕ)) (before after : ℕ) → after ≡ before → before ≡ length old + length made → new ++ left ≡ old ++ made → after ≡ length new + length left
-  counted_on old new made left before after same counted is = omega (arith, same, counted, ap length is, length-append new left, length-append old made)
+  counted_on : (old new : List (List ℕ)) (made left : List (List ℕ)) (commits : ℕ) → commits ≡ length old + length made → new ++ left ≡ old ++ made → commits ≡ length new + length left
+  counted_on old new made left commits counted is = omega (arith, counted, ap length is, length-append new left, length-append old made)
 
   -- what is gathered goes out, where the same items are left
-  pub moves_with : {R : Type 0} (a b : Running T) (h0 h1 : H) (result : Result R Stop) → IsSane t s g a h0 → b.turns ≡ a.turns → (s.tells → left_items b.reader (s.unread h1) ≡ left_items a.reader (s.unread h0))
+  pub moves_with : {R : Type 0} (a b : Running T) (h0 h1 : H) (result : Result R Stop) → b.turns ≡ a.turns → (s.tells → left_items b.reader (s.unread h1) ≡ left_items a.reader (s.unread h0))
       → (s.tells → IsTooLong a (s.unread h0) → left_whole b.reader (s.unread h1) ≡ left_whole a.reader (s.unread h0)) → (s.tells → KeepsRoom (input_left a.reader (s.unread h0)) (input_left b.reader (s.unread h1)))
       → HandsOn s g a.outgoing h0 b.outgoing h1 result → MovesOn t s g a h0 b h1 result
-  moves_with {R} a b h0 h1 (Err e) sane turns same_items same_whole count hands = record {
-    sane = tt;
-    goes_on = tt;
+  moves_with {R} a b h0 h1 (Err e) turns same_items same_whole count hands = λ f sane. record {
+    next = tt;
     telling = hands.telling;
-    front = λ tells. front_behind (g.written h0) (g.written h1) a.outgoing.gathered.told (told_by (ahead t a (s.unread h0))) (hands.front tells);
-    moments = λ told least before tell. hands.moments told least before tell (made_by (ahead t a (s.unread h0)));
+    front = λ tells. front_behind (g.written h0) (g.written h1) a.outgoing.gathered.told (told_by (ahead f a (s.unread h0))) (hands.front tells);
+    moments = λ told least before tell. hands.moments told least before tell (made_by (ahead f a (s.unread h0)));
     ends = hands.ends;
   }
-  moves_with {R} a b h0 h1 (Ok x) sane turns same_items same_whole count hands =
-      let items : s.tells → ahead t b (s.unread h1) ≡ ahead t a (s.unread h0) = λ tells. ap (λ (y : T). pieces t y (left_items b.reader (s.unread h1))) turns ∙ ap (pieces t a.turns) (same_items tells) in
-      let whole : s.tells → IsTooLong a (s.unread h0) → ahead_within t b (s.unread h1) ≡ ahead_within t a (s.unread h0) = λ tells more. ap (λ (y : T). t.taken y (left_whole b.reader (s.unread h1))) turns ∙ ap (t.taken a.turns) (same_whole tells more) in
+  moves_with {R} a b h0 h1 (Ok x) turns same_items same_whole count hands = λ f sane.
+      let items : s.tells → ahead f b (s.unread h1) ≡ ahead f a (s.unread h0) = λ tells. ap (pieces f) (same_items tells) in
+      let whole : s.tells → IsTooLong a (s.unread h0) → ahead_within f b (s.unread h1) ≡ ahead_within f a (s.unread h0) = λ tells more. ap f.taken (same_whole tells more) in
       record {
-        sane = record {
-          serving = hands.serving;
-          is_true = λ tells. subst (λ (y : T). AreTrue (t.commits y) (ahead t b (s.unread h1))) (sym turns) (subst (AreTrue (t.commits a.turns)) (sym (items tells)) (sane.is_true tells));
-          counted = λ told.
-              let before : Told s g h0 = record { tells = told.tells; honest = subst IsHonest hands.ends.uses.all.standing told.honest } in
-              counted_on (texts_in (g.files h0)) (texts_in (g.files h1)) a.outgoing.gathered.made b.outgoing.gathered.made (t.commits a.turns) (t.commits b.turns) (ap t.commits turns) (sane.counted before) (hands.made before);
-        };
-        goes_on = record {
-          told = λ tells. ap (λ (p : List Piece). g.written h1 ++ (b.outgoing.gathered.told ++ told_by p)) (items tells) ∙ behind (g.written h0) a.outgoing.gathered.told (g.written h1) b.outgoing.gathered.told (told_by (ahead t a (s.unread h0))) (hands.told tells);
-          within = λ tells more. ap (λ (p : List Piece). g.written h1 ++ (b.outgoing.gathered.told ++ told_by p)) (whole tells more) ∙ behind (g.written h0) a.outgoing.gathered.told (g.written h1) b.outgoing.gathered.told (told_by (ahead_within t a (s.unread h0))) (hands.told tells);
-          made = λ told. ap (λ (p : List Piece). texts_in (g.files h1) ++ (b.outgoing.gathered.made ++ made_by p)) (items told.tells) ∙ behind (texts_in (g.files h0)) a.outgoing.gathered.made (texts_in (g.files h1)) b.outgoing.gathered.made (made_by (ahead t a (s.unread h0))) (hands.made told);
-          commits = λ tells. ap (λ (p : List Piece). t.commits b.turns + length (made_by p)) (items tells) ∙ ap (λ (y : T). t.commits y + length (made_by (ahead t a (s.unread h0)))) turns;
-          count = count;
+        next = record {
+          future = f;
+          sane = record {
+            at = subst (λ (y : T). t.has_ahead y f) (sym turns) sane.at;
+            serving = hands.serving;
+            is_true = λ tells. subst (AreTrue f.commits) (sym (items tells)) (sane.is_true tells);
+            counted = λ told.
+                let before : Told s g h0 = record { tells = told.tells; honest = subst IsHonest hands.ends.uses.all.standing told.honest } in
+                counted_on (texts_in (g.files h0)) (texts_in (g.files h1)) a.outgoing.gathered.made b.outgoing.gathered.made f.commits (sane.counted before) (hands.made before);
+          };
+          goes_on = record {
+            told = λ tells. ap (λ (p : List Piece). g.written h1 ++ (b.outgoing.gathered.told ++ told_by p)) (items tells) ∙ behind (g.written h0) a.outgoing.gathered.told (g.written h1) b.outgoing.gathered.told (told_by (ahead f a (s.unread h0))) (hands.told tells);
+            within = λ tells more. ap (λ (p : List Piece). g.written h1 ++ (b.outgoing.gathered.told ++ told_by p)) (whole tells more) ∙ behind (g.written h0) a.outgoing.gathered.told (g.written h1) b.outgoing.gathered.told (told_by (ahead_within f a (s.unread h0))) (hands.told tells);
+            made = λ told. ap (λ (p : List Piece). texts_in (g.files h1) ++ (b.outgoing.gathered.made ++ made_by p)) (items told.tells) ∙ behind (texts_in (g.files h0)) a.outgoing.gathered.made (texts_in (g.files h1)) b.outgoing.gathered.made (made_by (ahead f a (s.unread h0))) (hands.made told);
+            commits = λ tells. ap (λ (p : List Piece). f.commits + length (made_by p)) (items tells);
+            count = count;
+          };
         };
         telling = hands.telling;
-        front = λ tells. front_behind (g.written h0) (g.written h1) a.outgoing.gathered.told (told_by (ahead t a (s.unread h0))) (hands.front tells);
-        moments = λ told least before tell. hands.moments told least before tell (made_by (ahead t a (s.unread h0)));
+        front = λ tells. front_behind (g.written h0) (g.written h1) a.outgoing.gathered.told (told_by (ahead f a (s.unread h0))) (hands.front tells);
+        moments = λ told least before tell. hands.moments told least before tell (made_by (ahead f a (s.unread h0)));
         ends = hands.ends;
       }
 
   -- the same where the reader is as it was
-  pub moves_handing : {R : Type 0} (a b : Running T) (h0 h1 : H) (result : Result R Stop) → IsSane t s g a h0 → b.reader ≡ a.reader → b.turns ≡ a.turns → s.unread h1 ≡ s.unread h0 → HandsOn s g a.outgoing h0 b.outgoing h1 result → MovesOn t s g a h0 b h1 result
-  moves_handing {R} a b h0 h1 result sane reader turns unread hands =
-      moves_with a b h0 h1 result sane turns (λ _. rw (reader, unread) refl) (λ _ _. rw (reader, unread) refl)
+  pub moves_handing : {R : Type 0} (a b : Running T) (h0 h1 : H) (result : Result R Stop) → b.reader ≡ a.reader → b.turns ≡ a.turns → s.unread h1 ≡ s.unread h0 → HandsOn s g a.outgoing h0 b.outgoing h1 result → MovesOn t s g a h0 b h1 result
+  moves_handing {R} a b h0 h1 result reader turns unread hands =
+      moves_with a b h0 h1 result turns (λ _. rw (reader, unread) refl) (λ _ _. rw (reader, unread) refl)
       (λ _. let room : input_left b.reader (s.unread h1) ≡ input_left a.reader (s.unread h0) = rw (reader, unread) refl in omega (arith, ap (λ (l : Left). l.room) room, ap (λ (l : Left). length l.input) room)) hands
 
   -- a run ends for want of memory, whatever takes turns has become
   pub moves_wanting : {R : Type 0} (a b : Running T) (o o1 : Outgoing) (h0 h1 : H) (stop : Stop) → o ≡ a.outgoing → HandsOn s g o h0 o1 h1 (failing stop) → MovesOn {R = R} t s g a h0 b h1 (Err stop)
-  moves_wanting {R} a b o o1 h0 h1 stop same hands =
+  moves_wanting {R} a b o o1 h0 h1 stop same hands = λ f sane.
       let all : HandsOn s g a.outgoing h0 o1 h1 (failing stop) = subst (λ (x : Outgoing). HandsOn s g x h0 o1 h1 (failing stop)) same hands in
       record {
-        sane = tt;
-        goes_on = tt;
+        next = tt;
         telling = λ _ least before tell. tt;
-        front = λ tells. front_behind (g.written h0) (g.written h1) a.outgoing.gathered.told (told_by (ahead t a (s.unread h0))) (all.front tells);
-        moments = λ told least before tell. all.moments told least before tell (made_by (ahead t a (s.unread h0)));
+        front = λ tells. front_behind (g.written h0) (g.written h1) a.outgoing.gathered.told (told_by (ahead f a (s.unread h0))) (all.front tells);
+        moments = λ told least before tell. all.moments told least before tell (made_by (ahead f a (s.unread h0)));
         ends = record { uses = all.ends.uses; calm = tt; stops = all.ends.stops };
       }
 
@@ -164,7 +181,7 @@ module _ {T H : Type 0} (t : turns.Ghosts T) (s : source.Ghosts H) (g : host.Gho
   marked_within (x ∷ made) all before within = within
 
   -- Only the input was used, and a piece was gathered.
-  module _ (a b : Running T) (h0 h1 : H) (sane : IsSane t s g a h0) (input : UsesInput s g h0 h1) (later : s.input_faults h0 ≤ s.input_faults h1) (calm : NoFaults s g h0 h1) (out : s.tells → (g.history h0).now.out ≡ g.written h0) (log : b.outgoing.log ≡ a.outgoing.log) (marked : b.outgoing.standing ≡ standing_with b.outgoing.gathered.made (length b.outgoing.gathered.told) a.outgoing.standing) (grown : length a.outgoing.gathered.told ≤ length b.outgoing.gathered.told) (commits : t.commits b.turns + length a.outgoing.gathered.made ≡ t.commits a.turns + length b.outgoing.gathered.made) (all : s.tells → Gives (ahead t a (s.unread h0)) (ahead t b (s.unread h1)) a.outgoing.gathered b.outgoing.gathered) (whole : s.tells → IsTooLong a (s.unread h0) → Gives (ahead_within t a (s.unread h0)) (ahead_within t b (s.unread h1)) a.outgoing.gathered b.outgoing.gathered) (count : s.tells → KeepsRoom (input_left a.reader (s.unread h0)) (input_left b.reader (s.unread h1))) where
+  module _ (f next : Future) (a b : Running T) (h0 h1 : H) (sane : IsSane t s g f a h0) (at : t.has_ahead b.turns next) (input : UsesInput s g h0 h1) (later : s.input_faults h0 ≤ s.input_faults h1) (calm : NoFaults s g h0 h1) (out : s.tells → (g.history h0).now.out ≡ g.written h0) (log : b.outgoing.log ≡ a.outgoing.log) (marked : b.outgoing.standing ≡ standing_with b.outgoing.gathered.made (length b.outgoing.gathered.told) a.outgoing.standing) (grown : length a.outgoing.gathered.told ≤ length b.outgoing.gathered.told) (commits : Counts f next a.outgoing.gathered b.outgoing.gathered) (all : s.tells → Gives (ahead f a (s.unread h0)) (ahead next b (s.unread h1)) a.outgoing.gathered b.outgoing.gathered) (whole : s.tells → IsTooLong a (s.unread h0) → Gives (ahead_within f a (s.unread h0)) (ahead_within next b (s.unread h1)) a.outgoing.gathered b.outgoing.gathered) (count : s.tells → KeepsRoom (input_left a.reader (s.unread h0)) (input_left b.reader (s.unread h1))) where
     still : Told s g h1 → Told s g h0
     still told = record { tells = told.tells; honest = subst IsHonest input.standing told.honest }
 
@@ -172,8 +189,8 @@ module _ {T H : Type 0} (t : turns.Ghosts T) (s : source.Ghosts H) (g : host.Gho
     made_count tells = ap length (all tells).made ∙ length-append a.outgoing.gathered.made (all tells).piece.made
 
     -- what is left begins with the piece
-    parts : (tells : s.tells) → AcknowledgesLines (all tells).piece.told (t.commits a.turns + length (all tells).piece.made) × AreTrue (t.commits a.turns + length (all tells).piece.made) (ahead t b (s.unread h1))
-    parts tells = subst (AreTrue (t.commits a.turns)) (all tells).is (sane.is_true tells)
+    parts : (tells : s.tells) → AcknowledgesLines (all tells).piece.told (f.commits + length (all tells).piece.made) × AreTrue (f.commits + length (all tells).piece.made) (ahead next b (s.unread h1))
+    parts tells = subst (AreTrue f.commits) (all tells).is (sane.is_true tells)
 
     serving : IsServing s g b.outgoing h1
     serving = record {
@@ -211,40 +228,44 @@ module _ {T H : Type 0} (t : turns.Ghosts T) (s : source.Ghosts H) (g : host.Gho
         (subst (λ (w : List ℕ). IsGathered before w (take a.outgoing.standing a.outgoing.gathered.told) (length (texts_in (g.files h1)))) (sym input.written)
         (subst (λ (n : ℕ). IsGathered before (g.written h0) (take a.outgoing.standing a.outgoing.gathered.told) n) (ap (λ (f : Five (List ℕ)). length (texts_in f)) (sym input.files)) tell.stands))
 
-    pub moves_gathered : {R : Type 0} (x : R) → MovesOn t s g a h0 b h1 (done x)
+    pub moves_gathered : {R : Type 0} (x : R) → Follows t s g f a h0 b h1 (done x)
     moves_gathered {R} x = record {
-      sane = record {
-        serving = serving;
-        is_true = λ tells. subst (λ (n : ℕ). AreTrue n (ahead t b (s.unread h1))) (omega (arith, commits, made_count tells)) (parts tells).1;
-        counted = λ told. omega (arith, commits, sane.counted (still told), ap (λ (f : Five (List ℕ)). length (texts_in f)) input.files, made_count told.tells);
-      };
-      goes_on = record {
-        told = λ tells.
-            ap (λ (l : List ℕ). g.written h1 ++ (l ++ told_by (ahead t b (s.unread h1)))) (all tells).told
-            ∙ on_told (g.written h1) a.outgoing.gathered.told (all tells).piece.told (told_by (ahead t b (s.unread h1))) (told_by (ahead t a (s.unread h0))) (ap told_by (all tells).is)
-            ∙ ap (λ (w : List ℕ). w ++ (a.outgoing.gathered.told ++ told_by (ahead t a (s.unread h0)))) input.written;
-        within = λ tells more.
-            ap (λ (l : List ℕ). g.written h1 ++ (l ++ told_by (ahead_within t b (s.unread h1)))) (whole tells more).told
-            ∙ on_told (g.written h1) a.outgoing.gathered.told (whole tells more).piece.told (told_by (ahead_within t b (s.unread h1))) (told_by (ahead_within t a (s.unread h0))) (ap told_by (whole tells more).is)
-            ∙ ap (λ (w : List ℕ). w ++ (a.outgoing.gathered.told ++ told_by (ahead_within t a (s.unread h0)))) input.written;
-        made = λ told.
-            ap (λ (l : List (List ℕ)). texts_in (g.files h1) ++ (l ++ made_by (ahead t b (s.unread h1)))) (all told.tells).made
-            ∙ on_made (texts_in (g.files h1)) a.outgoing.gathered.made (all told.tells).piece.made (made_by (ahead t b (s.unread h1))) (made_by (ahead t a (s.unread h0))) (ap made_by (all told.tells).is)
-            ∙ ap (λ (f : Five (List ℕ)). texts_in f ++ (a.outgoing.gathered.made ++ made_by (ahead t a (s.unread h0)))) input.files;
-        commits = λ tells.
-            omega (arith, commits, made_count tells, ap (λ (p : List Piece). length (made_by p)) (all tells).is, length-append (all tells).piece.made (made_by (ahead t b (s.unread h1))));
-        count = count;
+      next = record {
+        future = next;
+        sane = record {
+          at = at;
+          serving = serving;
+          is_true = λ tells. subst (λ (n : ℕ). AreTrue n (ahead next b (s.unread h1))) (omega (arith, commits, made_count tells)) (parts tells).1;
+          counted = λ told. omega (arith, commits, sane.counted (still told), ap (λ (f : Five (List ℕ)). length (texts_in f)) input.files, made_count told.tells);
+        };
+        goes_on = record {
+          told = λ tells.
+              ap (λ (l : List ℕ). g.written h1 ++ (l ++ told_by (ahead next b (s.unread h1)))) (all tells).told
+              ∙ on_told (g.written h1) a.outgoing.gathered.told (all tells).piece.told (told_by (ahead next b (s.unread h1))) (told_by (ahead f a (s.unread h0))) (ap told_by (all tells).is)
+              ∙ ap (λ (w : List ℕ). w ++ (a.outgoing.gathered.told ++ told_by (ahead f a (s.unread h0)))) input.written;
+          within = λ tells more.
+              ap (λ (l : List ℕ). g.written h1 ++ (l ++ told_by (ahead_within next b (s.unread h1)))) (whole tells more).told
+              ∙ on_told (g.written h1) a.outgoing.gathered.told (whole tells more).piece.told (told_by (ahead_within next b (s.unread h1))) (told_by (ahead_within f a (s.unread h0))) (ap told_by (whole tells more).is)
+              ∙ ap (λ (w : List ℕ). w ++ (a.outgoing.gathered.told ++ told_by (ahead_within f a (s.unread h0)))) input.written;
+          made = λ told.
+              ap (λ (l : List (List ℕ)). texts_in (g.files h1) ++ (l ++ made_by (ahead next b (s.unread h1)))) (all told.tells).made
+              ∙ on_made (texts_in (g.files h1)) a.outgoing.gathered.made (all told.tells).piece.made (made_by (ahead next b (s.unread h1))) (made_by (ahead f a (s.unread h0))) (ap made_by (all told.tells).is)
+              ∙ ap (λ (x : Five (List ℕ)). texts_in x ++ (a.outgoing.gathered.made ++ made_by (ahead f a (s.unread h0)))) input.files;
+          commits = λ tells.
+              omega (arith, commits, made_count tells, ap (λ (p : List Piece). length (made_by p)) (all tells).is, length-append (all tells).piece.made (made_by (ahead next b (s.unread h1))));
+          count = count;
+        };
       };
       telling = λ told least before tell. record {
         enough = omega (arith, tell.enough, ap (λ (f : Five (List ℕ)). length (texts_in f)) input.files);
         stands = subst (λ (n : ℕ). IsGathered before (g.written h1) (take n b.outgoing.gathered.told) (length (texts_in (g.files h1)))) (sym marked) (stands told least before tell b.outgoing.gathered.made refl);
         gathered = gathered told least before tell;
       };
-      front = λ tells. subst (λ (w : List ℕ). WritesPrefix (g.written h0) w (a.outgoing.gathered.told ++ told_by (ahead t a (s.unread h0)))) (sym input.written) (nothing_yet (g.written h0) _);
+      front = λ tells. subst (λ (w : List ℕ). WritesPrefix (g.written h0) w (a.outgoing.gathered.told ++ told_by (ahead f a (s.unread h0)))) (sym input.written) (nothing_yet (g.written h0) _);
       moments = λ told least before tell.
           let part = take a.outgoing.standing a.outgoing.gathered.told in
           let now = subst (λ (w : List ℕ). IsGathered before w part (length (texts_in (g.files h0)))) (sym (out told.tells)) tell.stands in
           since_weaker (input.moments told.tells)
-          (λ m reading. held_telling (g.files h0) (g.history h0) a.outgoing.log (sane.serving.log told) sane.serving.epoch least before tell.enough part (a.outgoing.gathered.made ++ made_by (ahead t a (s.unread h0))) m now (handed_reading (g.history h0).now m part reading));
+          (λ m reading. held_telling (g.files h0) (g.history h0) a.outgoing.log (sane.serving.log told) sane.serving.epoch least before tell.enough part (a.outgoing.gathered.made ++ made_by (ahead f a (s.unread h0))) m now (handed_reading (g.history h0).now m part reading));
       ends = record { uses = input_log input later; calm = calm; stops = tt };
     }

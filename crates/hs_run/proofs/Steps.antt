@@ -1,5 +1,5 @@
 -- A piece that takes turns gathers, as a part of a run.
-use Rattle.std.proofs.Common.{◌≡◌, ◌+◌, ◌≤◌, true, false, Ok, List, [], ◌∷◌, ◌++◌, length, refl, sym, ap, subst, ◌∙◌, arith, length-append}
+use Rattle.std.proofs.Common.{◌≡◌, ◌≤◌, true, false, Ok, List, [], ◌∷◌, ◌++◌, length, refl, sym, ap, subst, ◌∙◌, arith, length-append}
 use Rattle.hs_host.specs.declared.source.Source as source
 use Rattle.hs_host.specs.declared.host.Host as host
 use Rattle.hs_host.specs.Used.{UsesInput}
@@ -13,10 +13,11 @@ use Rattle.hs_run.specs.declared.gathered.Gathered.{Gathered}
 use Rattle.hs_run.specs.declared.running.Running.{Running}
 use Rattle.hs_run.specs.declared.turns.Turns as turns
 use Rattle.hs_run.specs.declared.outgoing.Outgoing.{Outgoing}
-use Rattle.hs_run.specs.Outgoing.{HandsOn, marked}
+use Rattle.hs_run.specs.Future.{ClosesOn, Future, StepsOn, TakesOn}
+use Rattle.hs_run.specs.Outgoing.{HandsOn, IsServing, marked}
 use Rattle.hs_run.specs.Pieces.{Gives, Piece}
 use Rattle.hs_run.specs.Items.{is_end}
-use Rattle.hs_run.specs.Running.{IsOver, IsSameReader, IsSane, MovesOn, pieces}
+use Rattle.hs_run.specs.Running.{IsOver, IsSameReader, MovesOn, pieces}
 use Rattle.hs_run.specs.Stop.{NoFaults}
 use Rattle.hs_run.proofs.Handing.{hands_none, hands_reading}
 use Rattle.hs_run.proofs.Moving.{done, moves_gathered, moves_over, moves_with}
@@ -47,67 +48,67 @@ module _ {T H : Type 0} (t : turns.Ghosts T) (s : source.Ghosts H) (g : host.Gho
   with_gathered a turns new o = record { reader = a.reader; turns = turns; outgoing = o }
 
   -- one that needs no more of the input
-  pub stepped : {R : Type 0} (a : Running T) (turns : T) (new : Gathered) (o : Outgoing) (h : H) (x : R) → o ≡ marked (record a.outgoing { gathered = new }) → IsSane t s g a h → (s.tells → (g.history h).now.out ≡ g.written h)
-      → ((items : List Item) → Gives (t.taken a.turns items) (t.taken turns items) a.outgoing.gathered new) → ((items : List Item) → t.closing turns items ≡ t.closing a.turns items)
-      → t.commits turns + length a.outgoing.gathered.made ≡ t.commits a.turns + length new.made → MovesOn t s g a h (with_gathered a turns new o) h (done t s g x)
-  stepped {R} a turns new o h x is sane out gives closing commits =
+  pub stepped : {R : Type 0} (a : Running T) (turns : T) (new : Gathered) (o : Outgoing) (h : H) (x : R) → o ≡ marked (record a.outgoing { gathered = new }) → (s.tells → (g.history h).now.out ≡ g.written h)
+      → ((f : Future) → t.has_ahead a.turns f → StepsOn (t.has_ahead turns) f a.outgoing.gathered new) → MovesOn t s g a h (with_gathered a turns new o) h (done t s g x)
+  stepped {R} a turns new o h x is out steps =
       let unread = s.unread h in
       let items = left_items a.reader unread in
       let b : Running T = record { reader = a.reader; turns = turns; outgoing = marked (record a.outgoing { gathered = new }) } in
-      subst (λ (o : Outgoing). MovesOn t s g a h (record { reader = a.reader; turns = turns; outgoing = o }) h (done t s g x)) (sym is)
-      (moves_gathered t s g a b h h sane (input_none h) (omega arith) (no_faults h) out refl refl (grown_by _ _ (gives [])) commits
-      (λ _. gives_with (t.taken a.turns items) (t.closing a.turns items) (t.taken turns items) (t.closing turns items) (gives items) (closing items))
-      (λ _ more. gives (left_whole a.reader unread))
+      subst (λ (o : Outgoing). MovesOn t s g a h (record { reader = a.reader; turns = turns; outgoing = o }) h (done t s g x)) (sym is) λ f sane.
+      let on = steps f sane.at in
+      moves_gathered t s g f on.next a b h h sane on.at (input_none h) (omega arith) (no_faults h) out refl refl (grown_by _ _ (on.piece [])) on.commits
+      (λ _. gives_with (f.taken items) (f.closing items) (on.next.taken items) (on.next.closing items) (on.piece items) (on.closing items))
+      (λ _ more. on.piece (left_whole a.reader unread))
       (λ _. omega arith)
-      x)
+      x
 
   -- a reader that has the same ahead of it
-  pub moves_reader : (a b : Running T) (h : H) → IsSane t s g a h → b.turns ≡ a.turns → b.outgoing ≡ a.outgoing → IsSameReader a.reader b.reader → MovesOn {R = Unit {0}} t s g a h b h (Ok tt)
-  moves_reader a b h sane turns outgoing same =
+  pub moves_reader : (a b : Running T) (h : H) → IsServing s g a.outgoing h → b.turns ≡ a.turns → b.outgoing ≡ a.outgoing → IsSameReader a.reader b.reader → MovesOn {R = Unit {0}} t s g a h b h (Ok tt)
+  moves_reader a b h serving turns outgoing same =
       let room = same.left (s.unread h) in
-      moves_with t s g a b h h (Ok tt) sane turns (λ _. ap items_of room) (λ _ _. ap whole_of room) (λ _. omega (arith, ap (λ (l : Left). l.room) room, ap (λ (l : Left). length l.input) room))
-      (subst (λ (o : Outgoing). HandsOn {R = Unit {0}} s g a.outgoing h o h (Ok tt)) (sym outgoing) (hands_none s g a.outgoing h sane.serving))
+      moves_with t s g a b h h (Ok tt) turns (λ _. ap items_of room) (λ _ _. ap whole_of room) (λ _. omega (arith, ap (λ (l : Left). l.room) room, ap (λ (l : Left). length l.input) room))
+      (subst (λ (o : Outgoing). HandsOn {R = Unit {0}} s g a.outgoing h o h (Ok tt)) (sym outgoing) (hands_none s g a.outgoing h serving))
 
   -- the next item was read, which is the end
-  pub moves_ended : (a b : Running T) (h0 h1 : H) (item : Item) → IsSane t s g a h0 → (s.tells → (g.history h0).now.out ≡ g.written h0) → UsesInput s g h0 h1 → s.input_faults h0 ≤ s.input_faults h1 → NoFaults s g h0 h1 → b.turns ≡ a.turns → b.outgoing ≡ a.outgoing → is_end item ≡ true
+  pub moves_ended : (a b : Running T) (h0 h1 : H) (item : Item) → IsServing s g a.outgoing h0 → (s.tells → (g.history h0).now.out ≡ g.written h0) → UsesInput s g h0 h1 → s.input_faults h0 ≤ s.input_faults h1 → NoFaults s g h0 h1 → b.turns ≡ a.turns → b.outgoing ≡ a.outgoing → is_end item ≡ true
       → (s.tells → TakesItem a.reader (s.unread h0) item b.reader (s.unread h1)) → IsOver b.reader → MovesOn t s g a h0 b h1 (done t s g false)
-  moves_ended a b h0 h1 item sane out input later calm turns outgoing end takes over =
+  moves_ended a b h0 h1 item serving out input later calm turns outgoing end takes over =
       moves_over t s g a b h0 h1 tt false
-      (moves_with t s g a b h0 h1 (Ok tt) sane turns
+      (moves_with t s g a b h0 h1 (Ok tt) turns
       (λ tells. none_left b.reader (s.unread h1) over.ended over.none ∙ sym (none_before item _ _ end (takes tells).first))
       (λ tells more. absurd (taken_none item _ _ end ((takes tells).whole more)))
       (λ tells. (takes tells).used)
-      (subst (λ (o : Outgoing). HandsOn {R = Unit {0}} s g a.outgoing h0 o h1 (Ok tt)) (sym outgoing) (hands_reading s g a.outgoing h0 h1 sane.serving out input later calm)))
+      (subst (λ (o : Outgoing). HandsOn {R = Unit {0}} s g a.outgoing h0 o h1 (Ok tt)) (sym outgoing) (hands_reading s g a.outgoing h0 h1 serving out input later calm)))
 
   -- it is taken, and a piece was gathered
-  pub moves_taken : {R : Type 0} (a : Running T) (reader : EntryReader) (turns : T) (new : Gathered) (o : Outgoing) (h0 h1 : H) (x : R) (item : Item) → o ≡ marked (record a.outgoing { gathered = new }) → IsSane t s g a h0 → (s.tells → (g.history h0).now.out ≡ g.written h0)
+  pub moves_taken : {R : Type 0} (a : Running T) (reader : EntryReader) (turns : T) (new : Gathered) (o : Outgoing) (h0 h1 : H) (x : R) (item : Item) → o ≡ marked (record a.outgoing { gathered = new }) → (s.tells → (g.history h0).now.out ≡ g.written h0)
       → UsesInput s g h0 h1 → s.input_faults h0 ≤ s.input_faults h1 → NoFaults s g h0 h1 → is_end item ≡ false → (s.tells → TakesItem a.reader (s.unread h0) item reader (s.unread h1))
-      → ((items : List Item) → Gives (t.taken a.turns (item ∷ items)) (t.taken turns items) a.outgoing.gathered new) → ((items : List Item) → t.closing turns items ≡ t.closing a.turns (item ∷ items))
-      → t.commits turns + length a.outgoing.gathered.made ≡ t.commits a.turns + length new.made → MovesOn t s g a h0 (record { reader = reader; turns = turns; outgoing = o }) h1 (done t s g x)
-  moves_taken {R} a reader turns new o h0 h1 x item is sane out input later calm more takes gives closing commits =
+      → ((f : Future) → t.has_ahead a.turns f → TakesOn (t.has_ahead turns) f item a.outgoing.gathered new) → MovesOn t s g a h0 (record { reader = reader; turns = turns; outgoing = o }) h1 (done t s g x)
+  moves_taken {R} a reader turns new o h0 h1 x item is out input later calm more takes takes_on =
       let unread = s.unread h1 in
       let items = left_items reader unread in
       let b : Running T = record { reader = reader; turns = turns; outgoing = marked (record a.outgoing { gathered = new }) } in
-      subst (λ (o : Outgoing). MovesOn t s g a h0 (record { reader = reader; turns = turns; outgoing = o }) h1 (done t s g x)) (sym is)
-      (moves_gathered t s g a b h0 h1 sane input later calm out refl refl (grown_by _ _ (gives [])) commits
-      (λ tells. subst (λ (l : List Item). Gives (pieces t a.turns l) (pieces t turns items) a.outgoing.gathered new) (sym (taken item _ _ more (takes tells).first))
-      (gives_with (t.taken a.turns (item ∷ items)) (t.closing a.turns (item ∷ items)) (t.taken turns items) (t.closing turns items) (gives items) (closing items)))
-      (λ tells long. subst (λ (l : List Item). Gives (t.taken a.turns l) (t.taken turns (left_whole reader unread)) a.outgoing.gathered new) (sym (taken_whole item _ _ ((takes tells).whole long))) (gives (left_whole reader unread)))
+      subst (λ (o : Outgoing). MovesOn t s g a h0 (record { reader = reader; turns = turns; outgoing = o }) h1 (done t s g x)) (sym is) λ f sane.
+      let on = takes_on f sane.at in
+      moves_gathered t s g f on.next a b h0 h1 sane on.at input later calm out refl refl (grown_by _ _ (on.piece [])) on.commits
+      (λ tells. subst (λ (l : List Item). Gives (pieces f l) (pieces on.next items) a.outgoing.gathered new) (sym (taken item _ _ more (takes tells).first))
+      (gives_with (f.taken (item ∷ items)) (f.closing (item ∷ items)) (on.next.taken items) (on.next.closing items) (on.piece items) (on.closing items)))
+      (λ tells long. subst (λ (l : List Item). Gives (f.taken l) (on.next.taken (left_whole reader unread)) a.outgoing.gathered new) (sym (taken_whole item _ _ ((takes tells).whole long))) (on.piece (left_whole reader unread)))
       (λ tells. (takes tells).used)
-      x)
+      x
 
   -- a piece was gathered at the end of the input
-  pub moves_closed : {R : Type 0} (a : Running T) (turns : T) (new : Gathered) (o : Outgoing) (h : H) (x : R) → o ≡ marked (record a.outgoing { gathered = new }) → IsSane t s g a h → (s.tells → (g.history h).now.out ≡ g.written h) → IsOver a.reader → t.taken a.turns [] ≡ []
-      → Gives (t.closing a.turns []) (t.taken turns [] ++ t.closing turns []) a.outgoing.gathered new → t.commits turns + length a.outgoing.gathered.made ≡ t.commits a.turns + length new.made
-      → MovesOn t s g a h (record { reader = a.reader; turns = turns; outgoing = o }) h (done t s g x)
-  moves_closed {R} a turns new o h x is sane out over none gives commits =
+  pub moves_closed : {R : Type 0} (a : Running T) (turns : T) (new : Gathered) (o : Outgoing) (h : H) (x : R) → o ≡ marked (record a.outgoing { gathered = new }) → (s.tells → (g.history h).now.out ≡ g.written h) → IsOver a.reader → ((f : Future) → t.has_ahead a.turns f → f.taken [] ≡ [])
+      → ((f : Future) → t.has_ahead a.turns f → ClosesOn (t.has_ahead turns) f a.outgoing.gathered new) → MovesOn t s g a h (record { reader = a.reader; turns = turns; outgoing = o }) h (done t s g x)
+  moves_closed {R} a turns new o h x is out over none closes =
       let unread = s.unread h in
       let b : Running T = record { reader = a.reader; turns = turns; outgoing = marked (record a.outgoing { gathered = new }) } in
       let empty : left_items a.reader unread ≡ [] = none_left a.reader unread over.ended over.none in
-      let all : Gives (pieces t a.turns []) (pieces t turns []) a.outgoing.gathered new = subst (λ (l : List Piece). Gives (l ++ t.closing a.turns []) (pieces t turns []) a.outgoing.gathered new) (sym none) gives in
-      subst (λ (o : Outgoing). MovesOn t s g a h (record { reader = a.reader; turns = turns; outgoing = o }) h (done t s g x)) (sym is)
-      (moves_gathered t s g a b h h sane (input_none h) (omega arith) (no_faults h) out refl refl (grown_by _ _ gives) commits
-      (λ _. subst (λ (l : List Item). Gives (pieces t a.turns l) (pieces t turns l) a.outgoing.gathered new) (sym empty) all)
+      subst (λ (o : Outgoing). MovesOn t s g a h (record { reader = a.reader; turns = turns; outgoing = o }) h (done t s g x)) (sym is) λ f sane.
+      let on = closes f sane.at in
+      let all : Gives (pieces f []) (pieces on.next []) a.outgoing.gathered new = subst (λ (l : List Piece). Gives (l ++ f.closing []) (pieces on.next []) a.outgoing.gathered new) (sym (none f sane.at)) on.piece in
+      moves_gathered t s g f on.next a b h h sane on.at (input_none h) (omega arith) (no_faults h) out refl refl (grown_by _ _ on.piece) on.commits
+      (λ _. subst (λ (l : List Item). Gives (pieces f l) (pieces on.next l) a.outgoing.gathered new) (sym empty) all)
       (λ _ more. absurd (omega (arith, more, ap length (over_input a.reader unread over.ended over.none))))
       (λ _. omega arith)
-      x)
+      x

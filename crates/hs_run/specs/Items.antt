@@ -1,8 +1,10 @@
--- Items of an input, and which have names of sessions without a line feed.
-use Rattle.std.specs.Prelude.{◌≡◌, ◌&&◌, Bool, true, false, List, [], ◌∷◌}
+-- Items of an input, and which of them may be taken.
+use Rattle.std.specs.Prelude.{◌≡◌, ◌&&◌, nat_le, Bool, true, false, List, ◌++◌, length, codes}
+use Rattle.std.specs.List.{list_all}
+use Rattle.std.specs.Str.{is_utf8}
 use Rattle.hs_entries.specs.declared.item.Item.{Item}
 use Rattle.hs_entries.specs.declared.item.Item.TheVariants.{Entry, Bad, TooLong, End}
-use Rattle.hs_entries.specs.Parts.{lacks}
+use Rattle.hs_entries.specs.Entry.{is_session}
 
 abbrev pub is_end : Item → Bool
 is_end End = true
@@ -10,16 +12,26 @@ is_end (Entry number name text at) = false
 is_end (Bad number) = false
 is_end (TooLong number) = false
 
--- the name of its session has no line feed, where it is of one
-abbrev pub is_named : Item → Bool
-is_named (Entry number name text at) = lacks 10 name
-is_named (Bad number) = true
-is_named (TooLong number) = true
-is_named End = true
+-- an item that isn't the end of the input; an entry's session has a name, and its statement at most 65,536 bytes
+abbrev pub is_taken : Item → Bool
+is_taken End = false
+is_taken (Entry number name text at) = is_session name && nat_le (length text) 65536
+is_taken (Bad number) = true
+is_taken (TooLong number) = true
 
-abbrev pub are_named : List Item → Bool
-are_named [] = true
-are_named (item ∷ items) = is_named item && are_named items
+abbrev pub IsTaken : Item → Type 0
+IsTaken item = is_taken item ≡ true
 
-abbrev pub AreNamed : List Item → Type 0
-AreNamed items = are_named items ≡ true
+-- it is text, an entry with its session's name and the colon
+abbrev pub is_text : Item → Bool
+is_text (Entry number name text at) = is_utf8 (name ++ codes ":" ++ text)
+is_text (Bad number) = true
+is_text (TooLong number) = true
+is_text End = true
+
+abbrev pub is_told : Item → Bool
+is_told item = is_taken item && is_text item
+
+-- items as those of an input are: each may be taken, and is text
+abbrev pub AreTold : List Item → Type 0
+AreTold items = list_all is_told items ≡ true

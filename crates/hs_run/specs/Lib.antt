@@ -1,4 +1,5 @@
 pub mod Crash
+pub mod Future
 pub mod Holding
 pub mod Items
 pub mod Lines

@@ -16,47 +16,53 @@ use Rattle.hs_run.specs.declared.stop.Stop.{Stop}
 use Rattle.hs_run.specs.declared.turns.Turns as turns
 use Rattle.hs_run.specs.Crash.{IsHeld, texts_in}
 use Rattle.hs_run.specs.Holding.{WritesPrefix}
-use Rattle.hs_run.specs.Items.{AreNamed}
+use Rattle.hs_run.specs.Future.{Future}
+use Rattle.hs_run.specs.Items.{AreTold}
 use Rattle.hs_run.specs.Outgoing.{IsServing, IsTelling}
 use Rattle.hs_run.specs.Pieces.{Piece, AreTrue, told_by, made_by}
 use Rattle.hs_run.specs.Used.{TakesTurns}
 
-module _ {T : Type 0} (t : turns.Ghosts T) where
-  -- all pieces that are left over these items to the end of the run
-  abbrev pub pieces : T → List Item → List Piece
-  pieces turns items = t.taken turns items ++ t.closing turns items
+-- all pieces that are left over these items to the end of the run
+abbrev pub pieces : Future → List Item → List Piece
+pieces f items = f.taken items ++ f.closing items
 
-  -- the same for a run that has so much of its input unread
-  abbrev pub ahead : Running T → List ℕ → List Piece
-  ahead r unread = pieces r.turns (left_items r.reader unread)
+-- the same for a run that has so much of its input unread
+abbrev pub ahead : {T : Type 0} → Future → Running T → List ℕ → List Piece
+ahead f r unread = pieces f (left_items r.reader unread)
 
-  -- those that come with the items that are whole within the limit of the input
-  abbrev pub ahead_within : Running T → List ℕ → List Piece
-  ahead_within r unread = t.taken r.turns (left_whole r.reader unread)
+-- those that come with the items that are whole within the limit of the input
+abbrev pub ahead_within : {T : Type 0} → Future → Running T → List ℕ → List Piece
+ahead_within f r unread = f.taken (left_whole r.reader unread)
 
-  -- over any items whose sessions have names no piece tells of a commit that isn't made
-  abbrev pub IsTrue : T → Type 0
-  IsTrue turns = (items : List Item) → AreNamed items → AreTrue (t.commits turns) (pieces turns items)
+-- over any items such as an input has no piece tells of a commit that isn't made
+abbrev pub IsTrue : Future → Type 0
+IsTrue f = (items : List Item) → AreTold items → AreTrue f.commits (pieces f items)
 
 -- the input goes beyond the bytes that may be used
 abbrev pub IsTooLong : {T : Type 0} → Running T → List ℕ → Type 0
 IsTooLong r unread = RunsOut (input_left r.reader unread)
 
--- The run may go on: what goes out does, what is left to be told is true, and the commits of turns are those that are logged or
--- gathered.
-pub record IsSane {T H : Type 0} (t : turns.Ghosts T) (s : source.Ghosts H) (g : host.Ghosts H) (r : Running T) (h : H) : Type 0 where
-  pub serving : IsServing s g r.outgoing h
-  pub is_true : s.tells → AreTrue (t.commits r.turns) (ahead t r (s.unread h))
-  pub counted : Told s g h → t.commits r.turns ≡ length (texts_in (g.files h)) + length r.outgoing.gathered.made
+-- no piece is left at the end of the input
+abbrev pub HasNoneAhead : {T : Type 0} → turns.Ghosts T → T → Type 0
+HasNoneAhead t turns = (f : Future) → t.has_ahead turns f → pieces f [] ≡ []
 
--- A run may begin: the host's files are open, the log is of the first epoch and kept as it is, also on the disk, what turns tell over
--- any items is true, and each of their commits is one of its texts.
-pub record IsBeginning {T H : Type 0} (t : turns.Ghosts T) (s : source.Ghosts H) (g : host.Ghosts H) (turns : T) (log : Log) (h : H) : Type 0 where
+-- The run may go on, and this is ahead of it: what goes out does, what is left to be told is true, and the commits of turns are
+-- those that are logged or gathered.
+pub record IsSane {T H : Type 0} (t : turns.Ghosts T) (s : source.Ghosts H) (g : host.Ghosts H) (f : Future) (r : Running T) (h : H) : Type 0 where
+  pub at : t.has_ahead r.turns f
+  pub serving : IsServing s g r.outgoing h
+  pub is_true : s.tells → AreTrue f.commits (ahead f r (s.unread h))
+  pub counted : Told s g h → f.commits ≡ length (texts_in (g.files h)) + length r.outgoing.gathered.made
+
+-- A run may begin, and this is ahead of it: the host's files are open, the log is of the first epoch and kept as it is, also on the
+-- disk, what turns tell over any items is true, and each of their commits is one of its texts.
+pub record IsBeginning {T H : Type 0} (t : turns.Ghosts T) (s : source.Ghosts H) (g : host.Ghosts H) (f : Future) (turns : T) (log : Log) (h : H) : Type 0 where
+  pub at : t.has_ahead turns f
   pub opened : IsOpen (g.standing h)
   pub epoch : epoch_in log ≡ 1
   pub kept : Told s g h → IsLog (g.history h) (g.files h) log
-  pub is_true : IsTrue t turns
-  pub counted : Told s g h → t.commits turns ≡ length (texts_in (g.files h))
+  pub is_true : IsTrue f
+  pub counted : Told s g h → f.commits ≡ length (texts_in (g.files h))
 
 -- The reader of a run keeps no fault.
 pub record IsReading {T H : Type 0} (s : source.Ghosts H) (r : Running T) (h : H) : Type 0 where
@@ -78,21 +84,35 @@ pub record IsOver (r : EntryReader) : Type 0 where
   pub none : reader_ahead r ≡ []
 
 -- What is left to be told and logged is what was left before, with what is gathered; and the reader counts what it takes.
-pub record GoesOn {T H : Type 0} (t : turns.Ghosts T) (s : source.Ghosts H) (g : host.Ghosts H) (old_run : Running T) (old : H) (new_run : Running T) (new : H) : Type 0 where
-  pub told : s.tells → g.written new ++ (new_run.outgoing.gathered.told ++ told_by (ahead t new_run (s.unread new))) ≡ g.written old ++ (old_run.outgoing.gathered.told ++ told_by (ahead t old_run (s.unread old)))
+pub record GoesOn {T H : Type 0} (s : source.Ghosts H) (g : host.Ghosts H) (f : Future) (old_run : Running T) (old : H) (next : Future) (new_run : Running T) (new : H) : Type 0 where
+  pub told : s.tells → g.written new ++ (new_run.outgoing.gathered.told ++ told_by (ahead next new_run (s.unread new))) ≡ g.written old ++ (old_run.outgoing.gathered.told ++ told_by (ahead f old_run (s.unread old)))
   pub within : s.tells → IsTooLong old_run (s.unread old)
-      → g.written new ++ (new_run.outgoing.gathered.told ++ told_by (ahead_within t new_run (s.unread new))) ≡ g.written old ++ (old_run.outgoing.gathered.told ++ told_by (ahead_within t old_run (s.unread old)))
-  pub made : Told s g old → texts_in (g.files new) ++ (new_run.outgoing.gathered.made ++ made_by (ahead t new_run (s.unread new))) ≡ texts_in (g.files old) ++ (old_run.outgoing.gathered.made ++ made_by (ahead t old_run (s.unread old)))
-  pub commits : s.tells → t.commits new_run.turns + length (made_by (ahead t new_run (s.unread new))) ≡ t.commits old_run.turns + length (made_by (ahead t old_run (s.unread old)))
+      → g.written new ++ (new_run.outgoing.gathered.told ++ told_by (ahead_within next new_run (s.unread new))) ≡ g.written old ++ (old_run.outgoing.gathered.told ++ told_by (ahead_within f old_run (s.unread old)))
+  pub made : Told s g old → texts_in (g.files new) ++ (new_run.outgoing.gathered.made ++ made_by (ahead next new_run (s.unread new))) ≡ texts_in (g.files old) ++ (old_run.outgoing.gathered.made ++ made_by (ahead f old_run (s.unread old)))
+  pub commits : s.tells → next.commits + length (made_by (ahead next new_run (s.unread new))) ≡ f.commits + length (made_by (ahead f old_run (s.unread old)))
   pub count : s.tells → KeepsRoom (input_left old_run.reader (s.unread old)) (input_left new_run.reader (s.unread new))
 
--- A part of a run: whatever it ends with, a prefix of what was left to be told was written, and a crash at each moment leaves a log
--- of what was logged and a front of what was left to be logged. Where it doesn't stop, the run goes on.
-pub record MovesOn {R T H : Type 0} (t : turns.Ghosts T) (s : source.Ghosts H) (g : host.Ghosts H) (old_run : Running T) (old : H) (new_run : Running T) (new : H) (result : Result R Stop) : Type 0 where
-  pub sane : OnOk result (IsSane t s g new_run new)
-  pub goes_on : OnOk result (GoesOn t s g old_run old new_run new)
+-- The run has something ahead of it again, with which it goes on.
+pub record HasNext {T H : Type 0} (t : turns.Ghosts T) (s : source.Ghosts H) (g : host.Ghosts H) (f : Future) (old_run : Running T) (old : H) (new_run : Running T) (new : H) : Type 0 where
+  pub future : Future
+  pub sane : IsSane t s g future new_run new
+  pub goes_on : GoesOn s g f old_run old future new_run new
+
+-- A part of a run that has this ahead of it: whatever it ends with, a prefix of what was left to be told was written, and a crash
+-- at each moment leaves a log of what was logged and a front of what was left to be logged. Where it doesn't stop, the run goes on.
+pub record Follows {R T H : Type 0} (t : turns.Ghosts T) (s : source.Ghosts H) (g : host.Ghosts H) (f : Future) (old_run : Running T) (old : H) (new_run : Running T) (new : H) (result : Result R Stop) : Type 0 where
+  pub next : OnOk result (HasNext t s g f old_run old new_run new)
   pub telling : Told s g old → (least : ℕ) (before : List ℕ) → IsTelling least before g old_run.outgoing old → OnOk result (IsTelling least before g new_run.outgoing new)
-  pub front : s.tells → WritesPrefix (g.written old) (g.written new) (old_run.outgoing.gathered.told ++ told_by (ahead t old_run (s.unread old)))
+  pub front : s.tells → WritesPrefix (g.written old) (g.written new) (old_run.outgoing.gathered.told ++ told_by (ahead f old_run (s.unread old)))
   pub moments : Told s g old → (least : ℕ) (before : List ℕ) → IsTelling least before g old_run.outgoing old
-      → Since (IsHeld least (texts_in (g.files old) ++ (old_run.outgoing.gathered.made ++ made_by (ahead t old_run (s.unread old)))) before) (g.history old) (g.history new)
+      → Since (IsHeld least (texts_in (g.files old) ++ (old_run.outgoing.gathered.made ++ made_by (ahead f old_run (s.unread old)))) before) (g.history old) (g.history new)
   pub ends : TakesTurns s g old new result
+
+-- so it is whatever is ahead of the run
+abbrev pub MovesOn : {R T H : Type 0} → turns.Ghosts T → source.Ghosts H → host.Ghosts H → Running T → H → Running T → H → Result R Stop → Type 0
+MovesOn t s g old_run old new_run new result = (f : Future) → IsSane t s g f old_run old → Follows t s g f old_run old new_run new result
+
+-- the input is too long, and all was written that comes with the items that are whole within its limit
+abbrev pub EndsWithin : {T H : Type 0} → turns.Ghosts T → source.Ghosts H → host.Ghosts H → Running T → H → H → Type 0
+EndsWithin t s g old_run old new = (f : Future) → IsSane t s g f old_run old
+    → IsTooLong old_run (s.unread old) × (g.written new ≡ g.written old ++ (old_run.outgoing.gathered.told ++ told_by (ahead_within f old_run (s.unread old))))

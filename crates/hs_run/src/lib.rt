@@ -4,6 +4,7 @@
 
 mod flush;
 mod gathered;
+mod lawful;
 mod outgoing;
 mod output;
 mod running;

@@ -1,14 +1,15 @@
 // A run at work.
-ghost use Rattle.std.specs.Prelude.{◌≡◌, ◌<◌, ◌≤◌, ◌++◌, [], None, true, false, IfOk, IsErrOf, OnOk};
+ghost use Rattle.std.specs.Prelude.{◌≡◌, ◌<◌, ◌≤◌, None, true, false, IfOk, IsErrOf, OnOk};
 ghost use Rattle.hs_entries.specs.Left.{IsBeyond};
 ghost use Rattle.hs_entries.specs.Reader.{AgreesWith, kept, left, room};
 ghost use Rattle.hs_entries.specs.Taking.{Counts, TakesItem};
 ghost use Rattle.hs_entries.specs.Calls.{HasInputCause};
 ghost use Rattle.hs_host.specs.Used.{UsesInput};
-ghost use Rattle.hs_run.specs.Items.{is_end};
-ghost use Rattle.hs_run.specs.Pieces.{told_by};
-ghost use Rattle.hs_run.specs.Running.{IsOver, IsReading, IsSameReader, IsSane, IsTooLong, MovesOn, ahead_within, pieces};
+ghost use Rattle.hs_run.specs.Future.{Future};
+ghost use Rattle.hs_run.specs.Items.{IsTaken, is_end};
+ghost use Rattle.hs_run.specs.Running.{EndsWithin, HasNoneAhead, IsOver, IsReading, IsSameReader, IsSane, MovesOn};
 
+use crate::lawful::may_be_taken;
 use crate::outgoing::Outgoing;
 use crate::stop::Stop;
 use crate::turns::Turns;
@@ -27,7 +28,7 @@ pub struct Running<T> {
 impl<T: Turns> Running<T> {
     // Gathers the next piece that needs no more of the input, and answers whether there was one.
     fn step<H: Host>(&mut self, host: &mut H) -> Result<bool, Stop>
-        requires sane { IsSane T.Turns H.Source H.Host.own self.old host.old }
+        requires sane { (f : Future) × IsSane T.Turns H.Source H.Host.own f self.old host.old }
         ensures moves { MovesOn T.Turns H.Source H.Host.own self.old host.old self.new host.new result }
         ensures weight { IfOk result (λ more. more ≡ true → T.weight self.new.turns < T.weight self.old.turns) }
         ensures rests { IfOk result (λ more. more ≡ false → T.rests self.new.turns × (self.new.turns ≡ self.old.turns)) }
@@ -48,7 +49,7 @@ impl<T: Turns> Running<T> {
 
     // Gathers all pieces that need no more of the input.
     fn settle<H: Host>(&mut self, host: &mut H) -> Result<(), Stop>
-        requires sane { IsSane T.Turns H.Source H.Host.own self.old host.old }
+        requires sane { (f : Future) × IsSane T.Turns H.Source H.Host.own f self.old host.old }
         ensures moves { MovesOn T.Turns H.Source H.Host.own self.old host.old self.new host.new result }
         ensures rests { OnOk result (T.rests self.new.turns) }
         ensures reader { self.new.reader ≡ self.old.reader }
@@ -62,7 +63,7 @@ impl<T: Turns> Running<T> {
 
     // Hands over what is gathered, unless the next item is at hand.
     fn ready<H: Host>(&mut self, host: &mut H) -> Result<(), Stop>
-        requires sane { IsSane T.Turns H.Source H.Host.own self.old host.old }
+        requires sane { (f : Future) × IsSane T.Turns H.Source H.Host.own f self.old host.old }
         ensures moves { MovesOn T.Turns H.Source H.Host.own self.old host.old self.new host.new result }
         ensures turns { self.new.turns ≡ self.old.turns }
         ensures reader { IsSameReader self.old.reader self.new.reader }
@@ -77,14 +78,14 @@ impl<T: Turns> Running<T> {
 
     // Reads the next item and takes it, with the first piece that comes with it. Answers whether there was one.
     fn advance<H: Host>(&mut self, host: &mut H) -> Result<bool, Stop>
-        requires sane { IsSane T.Turns H.Source H.Host.own self.old host.old }
+        requires sane { (f : Future) × IsSane T.Turns H.Source H.Host.own f self.old host.old }
         requires rests { T.rests self.old.turns }
         requires reading { IsReading H.Source self.old host.old }
         ensures moves { MovesOn T.Turns H.Source H.Host.own self.old host.old self.new host.new result }
         ensures reading { OnOk result (IsReading H.Source self.new host.new) }
         ensures more { IfOk result (λ more. more ≡ true → room self.new.reader < room self.old.reader) }
         ensures over { IfOk result (λ more. more ≡ false → IsOver self.new.reader × T.rests self.new.turns) }
-        ensures too_long { H.tells → IsErrOf result Stop.TooLong → IsTooLong self.old (H.unread host.old) × (H.written host.new ≡ H.written host.old ++ (self.old.outgoing.gathered.told ++ told_by (ahead_within T.Turns self.old (H.unread host.old)))) }
+        ensures too_long { H.tells → IsErrOf result Stop.TooLong → EndsWithin T.Turns H.Source H.Host.own self.old host.old host.new }
     {
         let item = match read_next(&mut self.reader, host) {
             Ok(item) => item,
@@ -107,12 +108,12 @@ impl<T: Turns> Running<T> {
 
     // Gathers the next piece that comes at the end of the input, and answers whether there was one.
     fn close<H: Host>(&mut self, host: &mut H) -> Result<bool, Stop>
-        requires sane { IsSane T.Turns H.Source H.Host.own self.old host.old }
+        requires sane { (f : Future) × IsSane T.Turns H.Source H.Host.own f self.old host.old }
         requires rests { T.rests self.old.turns }
         requires over { IsOver self.old.reader }
         ensures moves { MovesOn T.Turns H.Source H.Host.own self.old host.old self.new host.new result }
         ensures weight { IfOk result (λ more. more ≡ true → T.weight self.new.turns < T.weight self.old.turns) }
-        ensures none { IfOk result (λ more. more ≡ false → pieces T.Turns self.new.turns [] ≡ []) }
+        ensures none { IfOk result (λ more. more ≡ false → HasNoneAhead T.Turns self.new.turns) }
         ensures reader { self.new.reader ≡ self.old.reader }
         ensures unread { H.unread host.new ≡ H.unread host.old }
         ensures short { IsErrOf result Stop.TooLong → ⊥ }
@@ -130,13 +131,13 @@ impl<T: Turns> Running<T> {
 
     // Takes the next item, with what comes before it. Answers whether there was one.
     fn turn<H: Host>(&mut self, host: &mut H) -> Result<bool, Stop>
-        requires sane { IsSane T.Turns H.Source H.Host.own self.old host.old }
+        requires sane { (f : Future) × IsSane T.Turns H.Source H.Host.own f self.old host.old }
         requires reading { IsReading H.Source self.old host.old }
         ensures moves { MovesOn T.Turns H.Source H.Host.own self.old host.old self.new host.new result }
         ensures reading { OnOk result (IsReading H.Source self.new host.new) }
         ensures more { IfOk result (λ more. more ≡ true → room self.new.reader < room self.old.reader) }
         ensures over { IfOk result (λ more. more ≡ false → IsOver self.new.reader) }
-        ensures too_long { H.tells → IsErrOf result Stop.TooLong → IsTooLong self.old (H.unread host.old) × (H.written host.new ≡ H.written host.old ++ (self.old.outgoing.gathered.told ++ told_by (ahead_within T.Turns self.old (H.unread host.old)))) }
+        ensures too_long { H.tells → IsErrOf result Stop.TooLong → EndsWithin T.Turns H.Source H.Host.own self.old host.old host.new }
     {
         self.settle(host)?;
         self.ready(host)?;
@@ -145,12 +146,12 @@ impl<T: Turns> Running<T> {
 
     /// Takes all items of the input.
     pub fn take_all<H: Host>(&mut self, host: &mut H) -> Result<(), Stop>
-        requires sane { IsSane T.Turns H.Source H.Host.own self.old host.old }
+        requires sane { (f : Future) × IsSane T.Turns H.Source H.Host.own f self.old host.old }
         requires reading { IsReading H.Source self.old host.old }
         ensures moves { MovesOn T.Turns H.Source H.Host.own self.old host.old self.new host.new result }
         ensures reading { OnOk result (IsReading H.Source self.new host.new) }
         ensures over { OnOk result (IsOver self.new.reader) }
-        ensures too_long { H.tells → IsErrOf result Stop.TooLong → IsTooLong self.old (H.unread host.old) × (H.written host.new ≡ H.written host.old ++ (self.old.outgoing.gathered.told ++ told_by (ahead_within T.Turns self.old (H.unread host.old)))) }
+        ensures too_long { H.tells → IsErrOf result Stop.TooLong → EndsWithin T.Turns H.Source H.Host.own self.old host.old host.new }
     {
         while self.turn(host)? {}
         Ok(())
@@ -158,11 +159,11 @@ impl<T: Turns> Running<T> {
 
     // Gathers the next piece that comes at the end of the input, with what comes before it. Answers whether there was one.
     fn ending<H: Host>(&mut self, host: &mut H) -> Result<bool, Stop>
-        requires sane { IsSane T.Turns H.Source H.Host.own self.old host.old }
+        requires sane { (f : Future) × IsSane T.Turns H.Source H.Host.own f self.old host.old }
         requires over { IsOver self.old.reader }
         ensures moves { MovesOn T.Turns H.Source H.Host.own self.old host.old self.new host.new result }
         ensures weight { IfOk result (λ more. more ≡ true → T.weight self.new.turns < T.weight self.old.turns) }
-        ensures none { IfOk result (λ more. more ≡ false → pieces T.Turns self.new.turns [] ≡ []) }
+        ensures none { IfOk result (λ more. more ≡ false → HasNoneAhead T.Turns self.new.turns) }
         ensures reader { self.new.reader ≡ self.old.reader }
         ensures unread { H.unread host.new ≡ H.unread host.old }
         ensures short { IsErrOf result Stop.TooLong → ⊥ }
@@ -173,10 +174,10 @@ impl<T: Turns> Running<T> {
 
     /// Gathers all that comes at the end of the input.
     pub fn close_all<H: Host>(&mut self, host: &mut H) -> Result<(), Stop>
-        requires sane { IsSane T.Turns H.Source H.Host.own self.old host.old }
+        requires sane { (f : Future) × IsSane T.Turns H.Source H.Host.own f self.old host.old }
         requires over { IsOver self.old.reader }
         ensures moves { MovesOn T.Turns H.Source H.Host.own self.old host.old self.new host.new result }
-        ensures none { OnOk result (pieces T.Turns self.new.turns [] ≡ []) }
+        ensures none { OnOk result (HasNoneAhead T.Turns self.new.turns) }
         ensures reader { self.new.reader ≡ self.old.reader }
         ensures unread { H.unread host.new ≡ H.unread host.old }
         ensures short { IsErrOf result Stop.TooLong → ⊥ }
@@ -197,11 +198,12 @@ fn ends(item: &Item) -> bool
     }
 }
 
-// The next item of the input. Nothing but the input is changed.
+// The next item of the input, which may be taken where it isn't the end. Nothing but the input is changed.
 fn read_next<H: Host>(reader: &mut EntryReader, host: &mut H) -> Result<Item, InputFault>
     requires { kept reader.old ≡ None }
     ensures sound { OnOk result (kept reader.new ≡ None) }
     ensures items { H.tells → IfOk result (λ item. TakesItem reader.old (H.unread host.old) item reader.new (H.unread host.new)) }
+    ensures taken { IfOk result (λ item. is_end item ≡ false → IsTaken item) }
     ensures counts { IfOk result (λ item. Counts reader.old item reader.new) }
     ensures agrees { H.tells → AgreesWith reader.old (H.unread host.old) → AgreesWith reader.new (H.unread host.new) }
     ensures too_long { H.tells → IsErrOf result InputFault.TooLong → IsBeyond (left reader.old (H.unread host.old)) }
@@ -209,5 +211,10 @@ fn read_next<H: Host>(reader: &mut EntryReader, host: &mut H) -> Result<Item, In
     ensures cause { HasInputCause (H.input_faults host.old) (H.input_faults host.new) result }
     ensures later { H.input_faults host.old ≤ H.input_faults host.new }
 {
-    reader.next(host)
+    let item = reader.next(host)?;
+    if ends(&item) || may_be_taken(&item) {
+        Ok(item)
+    } else {
+        Err(InputFault::NoMemory)
+    }
 }

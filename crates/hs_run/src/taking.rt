@@ -1,10 +1,11 @@
 // A run from its first line to its last.
-ghost use Rattle.std.specs.Prelude.{◌≡◌, ◌<◌, ◌≤◌, ◌+◌, ◌^◌, ℕ, List, [], ◌++◌, length, take, IsErrOf, OnOk};
+ghost use Rattle.std.specs.Prelude.{◌≡◌, ◌<◌, ◌≤◌, ◌+◌, ◌^◌, [], ◌++◌, length, take, IsErrOf, OnOk};
 ghost use Rattle.hs_entries.specs.Items.{items, whole_items};
 ghost use Rattle.hs_host.specs.Moments.{Since};
 ghost use Rattle.hs_host.specs.Used.{Told};
 ghost use Rattle.hs_log.specs.Log.{IsWholeLog};
 ghost use Rattle.hs_run.specs.Crash.{IsHeld, texts_in};
+ghost use Rattle.hs_run.specs.Future.{Future};
 ghost use Rattle.hs_run.specs.Holding.{WritesPrefix};
 ghost use Rattle.hs_run.specs.Outgoing.{Closes, IsServing, Opens};
 ghost use Rattle.hs_run.specs.Pieces.{made_by, transcript, transcript_within};
@@ -41,13 +42,13 @@ pub fn take_turns<H: Host, T: Turns + Drop>(
     log: Log,
     host: &mut H,
 ) -> Result<(), Stop>
-    requires begins { IsBeginning T.Turns H.Source H.Host.own turns log host.old }
-    ensures front { H.tells → WritesPrefix (H.written host.old) (H.written host.new) (transcript (T.commits turns) (pieces T.Turns turns (items 1 (H.unread host.old)))) }
-    ensures done { H.tells → OnOk result (H.written host.new ≡ H.written host.old ++ transcript (T.commits turns) (pieces T.Turns turns (items 1 (H.unread host.old)))) }
-    ensures too_long { H.tells → IsErrOf result Stop.TooLong → (2 ^ 30 < length (H.unread host.old)) × (H.written host.new ≡ H.written host.old ++ transcript_within (T.commits turns) (T.taken turns (whole_items 1 (take (2 ^ 30) (H.unread host.old))))) }
+    requires begins { (f : Future) × IsBeginning T.Turns H.Source H.Host.own f turns log host.old }
+    ensures front { (f : Future) → IsBeginning T.Turns H.Source H.Host.own f turns log host.old → H.tells → WritesPrefix (H.written host.old) (H.written host.new) (transcript f.commits (pieces f (items 1 (H.unread host.old)))) }
+    ensures done { (f : Future) → IsBeginning T.Turns H.Source H.Host.own f turns log host.old → H.tells → OnOk result (H.written host.new ≡ H.written host.old ++ transcript f.commits (pieces f (items 1 (H.unread host.old)))) }
+    ensures too_long { (f : Future) → IsBeginning T.Turns H.Source H.Host.own f turns log host.old → H.tells → IsErrOf result Stop.TooLong → (2 ^ 30 < length (H.unread host.old)) × (H.written host.new ≡ H.written host.old ++ transcript_within f.commits (f.taken (whole_items 1 (take (2 ^ 30) (H.unread host.old))))) }
     ensures read { H.tells → OnOk result ((H.unread host.new ≡ []) × (length (H.unread host.old) ≤ 2 ^ 30)) }
-    ensures log { Told H.Source H.Host.own host.old → OnOk result (IsWholeLog 1 (texts_in (H.files host.old) ++ made_by (pieces T.Turns turns (items 1 (H.unread host.old)))) (H.files host.new).log) }
-    ensures moments { Told H.Source H.Host.own host.old → Since (IsHeld (length (texts_in (H.files host.old))) (texts_in (H.files host.old) ++ made_by (pieces T.Turns turns (items 1 (H.unread host.old)))) (H.written host.old)) (H.history host.old) (H.history host.new) }
+    ensures log { (f : Future) → IsBeginning T.Turns H.Source H.Host.own f turns log host.old → Told H.Source H.Host.own host.old → OnOk result (IsWholeLog 1 (texts_in (H.files host.old) ++ made_by (pieces f (items 1 (H.unread host.old)))) (H.files host.new).log) }
+    ensures moments { (f : Future) → IsBeginning T.Turns H.Source H.Host.own f turns log host.old → Told H.Source H.Host.own host.old → Since (IsHeld (length (texts_in (H.files host.old))) (texts_in (H.files host.old) ++ made_by (pieces f (items 1 (H.unread host.old)))) (H.written host.old)) (H.history host.old) (H.history host.new) }
     ensures ends { TakesTurns H.Source H.Host.own host.old host.new result }
 {
     let mut outgoing = Outgoing {

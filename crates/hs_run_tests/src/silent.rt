@@ -15,14 +15,10 @@ pub struct Silent {
 }
 
 impl Turns for Silent {
-    ghost use Rattle.std.specs.Prelude.{⊤, [], refl};
-    ghost use Rattle.hs_run_tests.specs.Silent.{pieces_of};
+    ghost use Rattle.std.specs.Prelude.{⊤, []};
+    ghost use Rattle.hs_run_tests.specs.Silent.{IsSilent};
 
-    ghost taken = { λ s items. pieces_of items };
-
-    ghost closing = { λ s items. [] };
-
-    ghost commits = { λ s. s.made };
+    ghost has_ahead = { λ s f. IsSilent s.made f };
 
     ghost rests = { λ s. ⊤ };
 
@@ -53,7 +49,7 @@ impl Turns for Silent {
         Ok(false)
     }
 
-    ghost resting = { λ s rests. refl };
+    ghost resting = { λ s f rests ahead. ahead.taken [] };
 }
 
 /// What this machine tells is true, over any items and after any number of commits.

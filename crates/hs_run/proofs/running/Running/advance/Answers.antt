@@ -17,13 +17,13 @@ use Rattle.hs_run.proofs.running.Running.advance.Goals as goal
 use Rattle.hs_run.proofs.running.Running.advance.Goals.{After-read_next, In-Err, After-mark, After-hand_over_when_large}
 
 serving : (g : _) (c : After-read_next g) → IsServing g.H.Source g.H.Host c.args.self.now.outgoing c.read_next.new.host
-serving g c = serving_read g.H.Source g.H.Host c.args.self.now.outgoing c.args.host.now c.read_next.new.host c.requires.sane.serving c.read_next.ensures.uses
+serving g c = serving_read g.H.Source g.H.Host c.args.self.now.outgoing c.args.host.now c.read_next.new.host c.requires.sane.1.serving c.read_next.ensures.uses
 
 -- the input failed
 pub returns-in-Err-Fault-clause-moves : goal.returns-in-Err-Fault-clause-moves
 returns-in-Err-Fault-clause-moves g c =
     moves_wanting g.T.Turns g.H.Source g.H.Host c.args.self.now _ c.args.self.now.outgoing c.args.self.now.outgoing c.args.host.now c.read_next.new.host Input refl
-    (hands_fault g.H.Source g.H.Host c.args.self.now.outgoing c.args.host.now c.read_next.new.host c.requires.sane.serving (g.met.H.Host.output_now c.args.host.now) c.in-Err-Fault.ensures.uses c.in-Err-Fault.ensures.later
+    (hands_fault g.H.Source g.H.Host c.args.self.now.outgoing c.args.host.now c.read_next.new.host c.requires.sane.1.serving (g.met.H.Host.output_now c.args.host.now) c.in-Err-Fault.ensures.uses c.in-Err-Fault.ensures.later
     (subst (λ (f : InputFault). HasInputCause {T = Item} (g.H.Source.input_faults c.args.host.now) (g.H.Source.input_faults c.read_next.new.host) (Err f)) c.in-Err-Fault.field-0-is c.in-Err-Fault.ensures.cause))
 
 -- it is too long
@@ -37,7 +37,7 @@ returns-in-Err-TooLong-clause-moves g c =
     let cause = subst (λ (f : InputFault). HasInputCause {T = Item} (g.H.Source.input_faults c.args.host.now) (g.H.Source.input_faults c.read_next.new.host) (Err f)) c.in-Err-TooLong.field-0-is e.cause in
     moves_wanting g.T.Turns g.H.Source g.H.Host c.args.self.now _ o c.cut.new.self c.args.host.now c.cut.new.host c.cut.result refl
     (hands_on g.H.Source g.H.Host o o c.cut.new.self c.args.host.now c.read_next.new.host c.cut.new.host tt _
-    (hands_reading g.H.Source g.H.Host o c.args.host.now c.read_next.new.host c.requires.sane.serving (g.met.H.Host.output_now c.args.host.now) e.uses e.later (input_calm e.uses cause)) c.cut.ensures.hands)
+    (hands_reading g.H.Source g.H.Host o c.args.host.now c.read_next.new.host c.requires.sane.1.serving (g.met.H.Host.output_now c.args.host.now) e.uses e.later (input_calm e.uses cause)) c.cut.ensures.hands)
 
 -- memory was wanted
 pub wanting-requires : goal.wanting-requires
@@ -50,7 +50,7 @@ returns-in-Err-NoMemory-clause-moves g c =
     let cause = subst (λ (f : InputFault). HasInputCause {T = Item} (g.H.Source.input_faults c.args.host.now) (g.H.Source.input_faults c.read_next.new.host) (Err f)) c.in-Err-NoMemory.field-0-is e.cause in
     moves_wanting g.T.Turns g.H.Source g.H.Host c.args.self.now _ o c.wanting.new.self c.args.host.now c.wanting.new.host c.wanting.result refl
     (hands_on g.H.Source g.H.Host o o c.wanting.new.self c.args.host.now c.read_next.new.host c.wanting.new.host tt _
-    (hands_reading g.H.Source g.H.Host o c.args.host.now c.read_next.new.host c.requires.sane.serving (g.met.H.Host.output_now c.args.host.now) e.uses e.later (input_calm e.uses cause)) c.wanting.ensures.hands)
+    (hands_reading g.H.Source g.H.Host o c.args.host.now c.read_next.new.host c.requires.sane.1.serving (g.met.H.Host.output_now c.args.host.now) e.uses e.later (input_calm e.uses cause)) c.wanting.ensures.hands)
 
 pub returns-in-Err-NoMemory-clause-too_long : goal.returns-in-Err-NoMemory-clause-too_long
 returns-in-Err-NoMemory-clause-too_long g c = λ told is. let same : c.wanting.result ≡ TooLong = cc in absurd (c.wanting.ensures.short same)
@@ -61,7 +61,7 @@ returns-then-ends-clause-moves g c =
     let e = c.in-Ok.ensures in
     let end = sym c.ends.ensures ∙ c.if-ends.true in
     let over = e.counts.end (ended c.in-Ok.item end) in
-    moves_ended g.T.Turns g.H.Source g.H.Host c.args.self.now (record { reader = c.read_next.new.reader; turns = c.args.self.now.turns; outgoing = c.args.self.now.outgoing }) c.args.host.now c.read_next.new.host c.in-Ok.item c.requires.sane (g.met.H.Host.output_now c.args.host.now)
+    moves_ended g.T.Turns g.H.Source g.H.Host c.args.self.now (record { reader = c.read_next.new.reader; turns = c.args.self.now.turns; outgoing = c.args.self.now.outgoing }) c.args.host.now c.read_next.new.host c.in-Ok.item c.requires.sane.1.serving (g.met.H.Host.output_now c.args.host.now)
     e.uses e.later (input_calm e.uses e.cause) refl refl end e.items (record { ended = over.0; none = over.1 })
 
 -- the run with the piece, and with what went out
@@ -75,11 +75,11 @@ gathered : (g : _) (c : After-mark g) → MovesOn {R = Bool} g.T.Turns g.H.Sourc
 gathered g c =
     let e = c.in-Ok.ensures in
     let took = c.in-Ok-take.ensures in
-    moves_taken g.T.Turns g.H.Source g.H.Host c.args.self.now c.read_next.new.reader c.take.new.self c.take.new.gathered c.mark.new.self c.args.host.now c.read_next.new.host true c.in-Ok.item c.mark.ensures c.requires.sane (g.met.H.Host.output_now c.args.host.now)
-    e.uses e.later (input_calm e.uses e.cause) (sym c.ends.ensures ∙ c.if-ends.false) e.items took.piece took.closing took.commits
+    moves_taken g.T.Turns g.H.Source g.H.Host c.args.self.now c.read_next.new.reader c.take.new.self c.take.new.gathered c.mark.new.self c.args.host.now c.read_next.new.host true c.in-Ok.item c.mark.ensures (g.met.H.Host.output_now c.args.host.now)
+    e.uses e.later (input_calm e.uses e.cause) (sym c.ends.ensures ∙ c.if-ends.false) e.items took.takes
 
 pub hand_over_when_large-requires : goal.hand_over_when_large-requires
-hand_over_when_large-requires g c = record { serving = (gathered g (goal.at.hand_over_when_large-requires g c).After-mark).sane.serving }
+hand_over_when_large-requires g c = record { serving = (gathered g (goal.at.hand_over_when_large-requires g c).After-mark c.requires.sane.0 c.requires.sane.1).next.sane.serving }
 
 pub returns-in_err-hand_over_when_large-in-Ok-take-clause-moves : goal.returns-in_err-hand_over_when_large-in-Ok-take-clause-moves
 returns-in_err-hand_over_when_large-in-Ok-take-clause-moves g c =
@@ -89,7 +89,7 @@ returns-in_err-hand_over_when_large-in-Ok-take-clause-moves g c =
     let stop = c.in_err-hand_over_when_large-in-Ok-take.field-0.0 in
     moves_on g.T.Turns g.H.Source g.H.Host c.args.self.now (with_piece g at) behind c.args.host.now c.read_next.new.host c.hand_over_when_large.new.host true c.from_residual.result first
     (moves_failing g.T.Turns g.H.Source g.H.Host (with_piece g at) behind c.read_next.new.host c.hand_over_when_large.new.host stop c.from_residual.result c.from_residual.ensures.1
-    (moves_handing g.T.Turns g.H.Source g.H.Host (with_piece g at) behind c.read_next.new.host c.hand_over_when_large.new.host _ first.sane refl refl c.hand_over_when_large.ensures.unread c.in_err-hand_over_when_large-in-Ok-take.ensures.hands))
+    (moves_handing g.T.Turns g.H.Source g.H.Host (with_piece g at) behind c.read_next.new.host c.hand_over_when_large.new.host _ refl refl c.hand_over_when_large.ensures.unread c.in_err-hand_over_when_large-in-Ok-take.ensures.hands))
 
 pub returns-in_ok-hand_over_when_large-in-Ok-take-clause-moves : goal.returns-in_ok-hand_over_when_large-in-Ok-take-clause-moves
 returns-in_ok-hand_over_when_large-in-Ok-take-clause-moves g c =
@@ -98,7 +98,7 @@ returns-in_ok-hand_over_when_large-in-Ok-take-clause-moves g c =
     let first = gathered g at in
     moves_on g.T.Turns g.H.Source g.H.Host c.args.self.now (with_piece g at) behind c.args.host.now c.read_next.new.host c.hand_over_when_large.new.host true (Ok true) first
     (moves_over g.T.Turns g.H.Source g.H.Host (with_piece g at) behind c.read_next.new.host c.hand_over_when_large.new.host tt true
-    (moves_handing g.T.Turns g.H.Source g.H.Host (with_piece g at) behind c.read_next.new.host c.hand_over_when_large.new.host _ first.sane refl refl c.hand_over_when_large.ensures.unread c.in_ok-hand_over_when_large-in-Ok-take.ensures.hands))
+    (moves_handing g.T.Turns g.H.Source g.H.Host (with_piece g at) behind c.read_next.new.host c.hand_over_when_large.new.host _ refl refl c.hand_over_when_large.ensures.unread c.in_ok-hand_over_when_large-in-Ok-take.ensures.hands))
 
 pub returns-in_err-hand_over_when_large-in-Ok-take-clause-too_long : goal.returns-in_err-hand_over_when_large-in-Ok-take-clause-too_long
 returns-in_err-hand_over_when_large-in-Ok-take-clause-too_long g c = λ told is. absurd (c.in_err-hand_over_when_large-in-Ok-take.ensures.short (ap Err (long_of c.from_residual.result c.in_err-hand_over_when_large-in-Ok-take.field-0.0 c.from_residual.ensures.1 is)))
@@ -119,7 +119,7 @@ returns-in-Err-clause-moves g c =
     let hands = subst (λ (x : Outgoing). HandsOn g.H.Source g.H.Host x c.read_next.new.host c.wanting-in-Err.new.self c.wanting-in-Err.new.host (failing c.wanting-in-Err.result)) (same_out g (goal.at.returns-in-Err-clause-moves g c).In-Err) c.wanting-in-Err.ensures.hands in
     moves_wanting g.T.Turns g.H.Source g.H.Host c.args.self.now _ o c.wanting-in-Err.new.self c.args.host.now c.wanting-in-Err.new.host c.wanting-in-Err.result refl
     (hands_on g.H.Source g.H.Host o o c.wanting-in-Err.new.self c.args.host.now c.read_next.new.host c.wanting-in-Err.new.host tt _
-    (hands_reading g.H.Source g.H.Host o c.args.host.now c.read_next.new.host c.requires.sane.serving (g.met.H.Host.output_now c.args.host.now) e.uses e.later (input_calm e.uses e.cause)) hands)
+    (hands_reading g.H.Source g.H.Host o c.args.host.now c.read_next.new.host c.requires.sane.1.serving (g.met.H.Host.output_now c.args.host.now) e.uses e.later (input_calm e.uses e.cause)) hands)
 
 pub returns-in-Err-clause-too_long : goal.returns-in-Err-clause-too_long
 returns-in-Err-clause-too_long g c = λ told is. let same : c.wanting-in-Err.result ≡ TooLong = cc in absurd (c.wanting-in-Err.ensures.short same)

@@ -3,7 +3,7 @@ use Rattle.hs_run.proofs.Moving.{moves_failing, moves_none, moves_on, moves_over
 use Rattle.hs_run.proofs.running.Running.close_all.Goals as goal
 
 pub loop-init : goal.loop-init
-loop-init g c = record { moved = moves_none g.T.Turns g.H.Source g.H.Host c.args.self.now c.args.host.now tt c.requires.sane; reader = refl; unread = refl }
+loop-init g c = record { moved = moves_none g.T.Turns g.H.Source g.H.Host c.args.self.now c.args.host.now tt; reader = refl; unread = refl }
 
 pub returns-in_err-ending-clause-moves : goal.returns-in_err-ending-clause-moves
 returns-in_err-ending-clause-moves g c =

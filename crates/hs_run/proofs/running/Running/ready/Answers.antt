@@ -13,7 +13,7 @@ looked g c = record { reader = c.is_ready.new.self; turns = c.args.self.now.turn
 looking : (g : _) (c : After-is_ready g) → MovesOn {R = Unit {0}} g.T.Turns g.H.Source g.H.Host c.args.self.now c.args.host.now (looked g c) c.args.host.now (Ok tt)
 looking g c =
     let e = c.is_ready.ensures in
-    moves_reader g.T.Turns g.H.Source g.H.Host c.args.self.now (looked g c) c.args.host.now c.requires.sane refl refl (same_reader c.args.self.now.reader c.is_ready.new.self e.ahead e.room e.number e.kept e.ended)
+    moves_reader g.T.Turns g.H.Source g.H.Host c.args.self.now (looked g c) c.args.host.now c.requires.sane.1.serving refl refl (same_reader c.args.self.now.reader c.is_ready.new.self e.ahead e.room e.number e.kept e.ended)
 
 pub returns-then-is_ready-clause-moves : goal.returns-then-is_ready-clause-moves
 returns-then-is_ready-clause-moves g c = looking g (goal.at.returns-then-is_ready-clause-moves g c).After-is_ready
@@ -23,4 +23,4 @@ returns-clause-moves g c =
     let at = (goal.at.returns-clause-moves g c).After-is_ready in
     let behind : Running g.row.T.Denot = record { reader = c.is_ready.new.self; turns = c.args.self.now.turns; outgoing = c.hand_over.new.self } in
     moves_on g.T.Turns g.H.Source g.H.Host c.args.self.now (looked g at) behind c.args.host.now c.args.host.now c.hand_over.new.host tt c.hand_over.result (looking g at)
-    (moves_handing g.T.Turns g.H.Source g.H.Host (looked g at) behind c.args.host.now c.hand_over.new.host c.hand_over.result (looking g at).sane refl refl c.hand_over.ensures.unread c.hand_over.ensures.hands)
+    (moves_handing g.T.Turns g.H.Source g.H.Host (looked g at) behind c.args.host.now c.hand_over.new.host c.hand_over.result refl refl c.hand_over.ensures.unread c.hand_over.ensures.hands)

@@ -3,7 +3,7 @@ use Rattle.hs_run.proofs.Moving.{moves_failing, moves_none, moves_on, moves_over
 use Rattle.hs_run.proofs.running.Running.settle.Goals as goal
 
 pub loop-init : goal.loop-init
-loop-init g c = record { moved = moves_none g.T.Turns g.H.Source g.H.Host c.args.self.now c.args.host.now tt c.requires.sane; reader = refl; weight = omega arith; unread = refl }
+loop-init g c = record { moved = moves_none g.T.Turns g.H.Source g.H.Host c.args.self.now c.args.host.now tt; reader = refl; weight = omega arith; unread = refl }
 
 pub returns-in_err-step-clause-moves : goal.returns-in_err-step-clause-moves
 returns-in_err-step-clause-moves g c =

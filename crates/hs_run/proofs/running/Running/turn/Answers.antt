@@ -1,6 +1,6 @@
 use Rattle.hs_run.specs.Running.{MovesOn}
 use Rattle.std.proofs.Common.{Ok}
-use Rattle.hs_run.proofs.Moving.{moves_failing, moves_on}
+use Rattle.hs_run.proofs.Moving.{ends_on, moves_failing, moves_on}
 use Rattle.hs_run.proofs.running.Running.turn.Goals as goal
 use Rattle.hs_run.proofs.running.Running.turn.Goals.{In_ok-ready}
 
@@ -16,3 +16,7 @@ prepared g c = moves_on g.T.Turns g.H.Source g.H.Host c.args.self.now c.settle.n
 pub returns-clause-moves : goal.returns-clause-moves
 returns-clause-moves g c =
     moves_on g.T.Turns g.H.Source g.H.Host c.args.self.now c.ready.new.self c.advance.new.self c.args.host.now c.ready.new.host c.advance.new.host tt c.advance.result (prepared g (goal.at.returns-clause-moves g c).In_ok-ready) c.advance.ensures.moves
+
+pub returns-clause-too_long : goal.returns-clause-too_long
+returns-clause-too_long g c = λ tells long.
+    ends_on g.T.Turns g.H.Source g.H.Host c.args.self.now c.ready.new.self c.args.host.now c.ready.new.host c.advance.new.host tt tells (prepared g (goal.at.returns-clause-too_long g c).In_ok-ready) (c.advance.ensures.too_long tells long)

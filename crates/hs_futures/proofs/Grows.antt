@@ -1,0 +1,256 @@
+-- An attempt makes commits behind those that there are, and no session more.
+use Rattle.std.proofs.Common.{◌≡◌, ℕ, ◌-◌, Bool, true, false, List, [], ◌∷◌, ◌++◌, length, refl, sym, ap, ◌∙◌, append-nil, append_assoc}
+use Rattle.std.specs.Prelude.{Option, None, Some, Result, Ok, Err, if◌then◌else◌, ◌&&◌, not}
+use Rattle.std.proofs.lemmas.List.{length-set}
+use Rattle.hs_ast.specs.declared.session.Modes.{Modes as NewModes}
+use Rattle.hs_claims.specs.declared.claim.Claim.{Claim}
+use Rattle.hs_claims.specs.Wants.{wants_of}
+use Rattle.hs_plan.specs.declared.change.Change.{Change}
+use Rattle.hs_plan.specs.declared.definition.Definition.{Definition}
+use Rattle.hs_changes.specs.Changes.{count_all_inserted}
+use Rattle.hs_schema.specs.Catalogue.{Text}
+use Rattle.hs_sessions.specs.declared.control.Control.{Control}
+use Rattle.hs_sessions.specs.Modes.{joined, no_modes}
+use Rattle.hs_sessions.specs.Settings.{controlled}
+use Rattle.hs_database.specs.Database.{Database, has_room, view}
+use Rattle.hs_histories.specs.Language.{Language}
+use Rattle.hs_histories.specs.Transactions.{Statement}
+use Rattle.hs_histories.specs.Transactions.Statement.{Data, OnSession}
+use Rattle.hs_histories.specs.Histories.{Open, Commit, History, base, commit_of, is_free, newer, no_conflict, now, others, own}
+use Rattle.hs_histories.specs.Events.{Event, Act, by_act, commit_by, define, define_by, defines as defining_step, definition_commit, finish, fresh, judged, said, says, stays_open, step}
+use Rattle.hs_histories.specs.Events.{Act as act}
+use Rattle.hs_turns.specs.Dialect.{Dialect, Request, language_of}
+use Rattle.hs_turns.specs.Dialect.{Request as request}
+use Rattle.hs_turns.specs.Lines.{Words, First}
+use Rattle.hs_turns.specs.Waiting.{Entry, waits_for}
+use Rattle.hs_turns.specs.Machine.{Machine, Settings, settings_of, with_settings, with_modes_used, open_of, is_open, session_seen, settings_in, event, happens, ends}
+use Rattle.hs_turns.specs.Attempts.{Ending, Empty, Fits, TooManyChanges, LogFull, blockers, open_sessions, leading_back, ending_of, own_of, seen_by, takes, noted, noted_by, data_event, auto_ended, went_on, held_up_data, judged_data, data_by, defined_by, defined, held_up, defining, commits_event, committed_own, own_by, own_first, bound_definition, definition_by, begins_event, named, attempt_start, commit_by as ended_by, attempt_commit, left_own, attempt_rollback, is_savepoint, ready, noted_control, in_transaction, attempt_by, attempt, present, next_number}
+
+-- ---- histories
+
+-- these commits are some, and others behind them
+pub record Adds (old new : List Commit) : Type 0 where
+  pub more : List Commit
+  pub is : new ≡ old ++ more
+
+none_added : (cs : List Commit) → Adds cs cs
+none_added cs = record { more = []; is = sym (append-nil cs) }
+
+one_added : (cs : List Commit) (k : Commit) → Adds cs (cs ++ k ∷ [])
+one_added cs k = record { more = k ∷ []; is = refl }
+
+module _ (lang : Language) (opening : Database) where
+  abbrev H : History → History → Type 0
+  H h k = Adds h.commits k.commits
+
+  finished : (keep : Bool) (o : Open) (who : ℕ) (h : History) → H h (finish keep o who h)
+  finished true o who h = one_added h.commits (commit_of o)
+  finished false o who h = none_added h.commits
+
+  committed_by : (cs : List Change) (room : Bool) (o : Open) (who : ℕ) (h refused : History) → H h refused → H h (commit_by cs room o who h refused)
+  committed_by [] room o who h refused r = finished false o who h
+  committed_by (c ∷ cs) true o who h refused r = finished true o who h
+  committed_by (c ∷ cs) false o who h refused r = r
+
+  auto_goes : (auto : Bool) (before o : Open) (who : ℕ) (h : History) → H h (if auto then commit_by o.trace.changes (has_room (now opening h.commits) o.trace.changes) o who h (finish false before who h) else stays_open o who h)
+  auto_goes true before o who h = committed_by o.trace.changes (has_room (now opening h.commits) o.trace.changes) o who h (finish false before who h) (finished false before who h)
+  auto_goes false before o who h = none_added h.commits
+
+  judged_goes : (free clear back : Bool) (before after : Open) (who : ℕ) (h : History) → H h (judged free clear back opening before after who h)
+  judged_goes true true back before after who h = auto_goes after.auto before after who h
+  judged_goes true false back before after who h = finished false before who h
+  judged_goes false clear true before after who h = finished false before who h
+  judged_goes false clear false before after who h = none_added h.commits
+
+  says_goes : (back : Bool) (s : Statement) (o : Open) (who : ℕ) (h : History) → H h (says lang opening back s o who h)
+  says_goes back (Data text) o who h =
+      let db = base h.kind opening h.commits o in
+      let f = (lang.outcome o.read_only (count_all_inserted o.trace.changes) (view db o.trace.changes) text).foot in
+      judged_goes (is_free h.kind o f (others who h.open_)) (no_conflict h.kind o f (newer h.commits o)) back o (said lang db (Data text) o) who h
+  says_goes back (OnSession control) o who h = none_added h.commits
+
+  defined_goes : (room : Bool) (session : ℕ) (definition : Definition) (h : History) → H h (define_by room session definition h)
+  defined_goes true session definition h = one_added h.commits (definition_commit session definition)
+  defined_goes false session definition h = none_added h.commits
+
+  define_goes : (session : ℕ) (found : Option Definition) (h : History) → H h (define opening session found h)
+  define_goes session None h = none_added h.commits
+  define_goes session (Some definition) h = defined_goes (has_room (now opening h.commits) (definition_commit session definition).changes) session definition h
+
+  defining_goes : (session : ℕ) (text : Text) (os : List Open) (h : History) → H h (defining_step lang opening session text os h)
+  defining_goes session text [] h = define_goes session (lang.definition (now opening h.commits) text) h
+  defining_goes session text (o ∷ os) h = none_added h.commits
+
+  act_goes : (back : Bool) (a : Act) (o : Open) (who : ℕ) (h : History) → H h (by_act lang opening back a o who h)
+  act_goes back act.Begins o who h = none_added h.commits
+  act_goes back (act.Says s) o who h = says_goes back s o who h
+  act_goes back act.Commits o who h = committed_by o.trace.changes (has_room (now opening h.commits) o.trace.changes) o who h (stays_open o who h) (none_added h.commits)
+  act_goes back act.Leaves o who h = finished false o who h
+  act_goes back (act.Defines text) o who h = defining_goes who text h.open_ h
+
+  step_goes : (e : Event) (h : History) → H h (step lang opening e h)
+  step_goes e h = act_goes e.back e.act (own e.session (fresh h.kind e (length h.commits)) h.open_) e.session h
+
+-- ---- attempts
+
+-- there are as many settings, and commits behind those that there were
+pub record Grows (m n : Machine) : Type 0 where
+  pub settings : length n.settings ≡ length m.settings
+  pub more : List Commit
+  pub commits : n.history.commits ≡ m.history.commits ++ more
+
+pub stays : (m : Machine) → Grows m m
+stays m = record { settings = refl; more = []; commits = sym (append-nil m.history.commits) }
+
+pub through : (m n k : Machine) → Grows m n → Grows n k → Grows m k
+through m n k f g = record {
+  settings = g.settings ∙ f.settings;
+  more = f.more ++ g.more;
+  commits = g.commits ∙ ap (λ (l : List Commit). l ++ g.more) f.commits ∙ append_assoc m.history.commits f.more g.more;
+}
+
+module _ (d : Dialect) (opening : Database) (made : ℕ) where
+  abbrev F : Machine → Machine → Type 0
+  F = Grows
+
+  goes : (e : Event) (m : Machine) → F m (happens d opening e m)
+  goes e m = let a = step_goes (language_of d) opening e m.history in record { settings = refl; more = a.more; commits = a.is }
+
+  sets : (s : ℕ) (set : Settings) (m n : Machine) → F m n → F m (with_settings s set n)
+  sets s set m n f = record { settings = length-set n.settings (s - 1) set ∙ f.settings; more = f.more; commits = f.commits }
+
+  ended : (s : ℕ) (m n : Machine) → F m n → F m (ends s n)
+  ended s m n f = record { settings = f.settings; more = f.more; commits = f.commits }
+
+  waiting : (w : ℕ → ℕ → Bool) (m n : Machine) → F m n → F m (record n { waits = w })
+  waiting w m n f = record { settings = f.settings; more = f.more; commits = f.commits }
+
+  either : (b : Bool) (m x y : Machine) → F m x → F m y → F m (if b then x else y)
+  either true m x y f g = f
+  either false m x y f g = g
+
+  taken : (e : Event) (m : Machine) → F m (takes d opening made e m)
+  taken e m = either (is_open m e.session) m (happens d opening e m) (with_modes_used e.session (happens d opening e m)) (goes e m) (sets e.session (record (settings_of (happens d opening e m) e.session) { next = no_modes }) m (happens d opening e m) (goes e m))
+
+  pub leaves : (s : ℕ) (m : Machine) → F m (left_own d opening made s m)
+  leaves s m = ended s m (happens d opening (event m s false false act.Leaves) m) (goes (event m s false false act.Leaves) m)
+
+  noting_by : (found : Option Open) (entry : Entry) (m : Machine) → F m (noted_by d opening made found entry m)
+  noting_by None entry m = stays m
+  noting_by (Some o) entry m = either o.auto m (left_own d opening made entry.session m) (happens d opening (event m entry.session false false (act.Says (Data entry.text))) m) (leaves entry.session m) (goes (event m entry.session false false (act.Says (Data entry.text))) m)
+
+  noting : (entry : Entry) (m : Machine) → F m (noted d opening made entry m)
+  noting entry m = noting_by (open_of m entry.session) entry m
+
+  -- ---- data statements
+
+  auto_ends : (how : Ending) (entry : Entry) (after : Open) (m : Machine) → F m (auto_ended d opening made how entry after m).next
+  auto_ends Empty entry after m = ended entry.session m (takes d opening made (data_event d opening made m entry false) m) (taken (data_event d opening made m entry false) m)
+  auto_ends Fits entry after m = ended entry.session m (takes d opening made (data_event d opening made m entry false) m) (taken (data_event d opening made m entry false) m)
+  auto_ends TooManyChanges entry after m = ended entry.session m (takes d opening made (data_event d opening made m entry false) m) (taken (data_event d opening made m entry false) m)
+  auto_ends LogFull entry after m = let e : Event = record (data_event d opening made m entry false) { act = act.Leaves } in ended entry.session m (takes d opening made e m) (taken e m)
+
+  goes_on : (auto : Bool) (entry : Entry) (after : Open) (m : Machine) → F m (went_on d opening made auto entry after m).next
+  goes_on true entry after m = auto_ends (ending_of d opening made m (commit_of after)) entry after m
+  goes_on false entry after m = taken (data_event d opening made m entry false) m
+
+  holds_up : (back : Option ℕ) (b : List ℕ) (entry : Entry) (m : Machine) → F m (held_up_data d opening made back b entry m).next
+  holds_up (Some back) b entry m = ended entry.session m (takes d opening made (data_event d opening made m entry true) m) (taken (data_event d opening made m entry true) m)
+  holds_up None b entry m = let n = takes d opening made (data_event d opening made m entry false) m in waiting (waits_for entry.session b n.waits) m n (taken (data_event d opening made m entry false) m)
+
+  judges : (free clear : Bool) (entry : Entry) (o : Open) (wanted : List Claim) (m : Machine) → F m (judged_data d opening made free clear entry o wanted m).next
+  judges true true entry o wanted m = goes_on o.auto entry (said (language_of d) (base m.history.kind opening m.history.commits o) (Data entry.text) o) m
+  judges true false entry o wanted m = ended entry.session m (takes d opening made (data_event d opening made m entry false) m) (taken (data_event d opening made m entry false) m)
+  judges false clear entry o wanted m = let b = blockers m entry.session wanted in holds_up (leading_back m entry.session b) b entry m
+
+  of_data : (why : Option Text) (entry : Entry) (o : Open) (m : Machine) → F m (data_by d opening made why entry o m).next
+  of_data (Some why) entry o m = noting entry m
+  of_data None entry o m =
+      let out = (language_of d).outcome o.read_only (count_all_inserted o.trace.changes) (seen_by d opening made m o) entry.text in
+      judges (is_free m.history.kind o out.foot (others entry.session m.history.open_)) (no_conflict m.history.kind o out.foot (newer m.history.commits o)) entry o (wants_of m.history.kind o.level o.read_only out.foot) m
+
+  -- ---- definitions
+
+  defines : (how : Ending) (before : List Words) (entry : Entry) (m : Machine) → F m (defined_by d opening made how before entry m).next
+  defines Empty before entry m = stays m
+  defines Fits before entry m = goes (event m entry.session false false (act.Defines entry.text)) m
+  defines TooManyChanges before entry m = stays m
+  defines LogFull before entry m = stays m
+
+  of_defined : (found : Result Definition Text) (before : List Words) (entry : Entry) (m : Machine) → F m (defined d opening made found before entry m).next
+  of_defined (Err why) before entry m = stays m
+  of_defined (Ok definition) before entry m = defines (ending_of d opening made m (definition_commit entry.session definition)) before entry m
+
+  blocked : (back : Option ℕ) (b : List ℕ) (before : List Words) (entry : Entry) (m : Machine) → F m (held_up d opening made back b before entry m).next
+  blocked (Some back) b before entry m = stays m
+  blocked None b before entry m = waiting (waits_for entry.session b m.waits) m m (stays m)
+
+  waits_or_defines : (os : List Open) (before : List Words) (entry : Entry) (m : Machine) → F m (defining d opening made os before entry m).next
+  waits_or_defines [] before entry m = of_defined (d.definition (present d opening made m) entry.text) before entry m
+  waits_or_defines (o ∷ os) before entry m = let b = open_sessions m in blocked (leading_back m entry.session b) b before entry m
+
+  own_commits : (m : Machine) (s : ℕ) → F m (committed_own d opening made m s)
+  own_commits m s = ended s m (happens d opening (commits_event d opening made m s) m) (goes (commits_event d opening made m s) m)
+
+  after_own : (before : List Words) (entry : Entry) (m : Machine) → F m (defining d opening made (committed_own d opening made m entry.session).history.open_ before entry (committed_own d opening made m entry.session)).next
+  after_own before entry m =
+      let next = committed_own d opening made m entry.session in
+      through m next (defining d opening made next.history.open_ before entry next).next (own_commits m entry.session) (waits_or_defines next.history.open_ before entry next)
+
+  owns : (how : Ending) (entry : Entry) (m : Machine) → F m (own_by d opening made how entry m).next
+  owns Empty entry m = after_own [] entry m
+  owns Fits entry m = after_own (First (next_number d opening made m) ∷ []) entry m
+  owns TooManyChanges entry m = stays m
+  owns LogFull entry m = stays m
+
+  first_own : (found : Option Open) (entry : Entry) (m : Machine) → F m (own_first d opening made found entry m).next
+  first_own None entry m = waits_or_defines m.history.open_ [] entry m
+  first_own (Some o) entry m = owns (ending_of d opening made m (commit_of o)) entry m
+
+  bound : (is_first : Bool) (entry : Entry) (m : Machine) → F m (bound_definition d opening made is_first entry m).next
+  bound true entry m = first_own (open_of m entry.session) entry m
+  bound false entry m = waits_or_defines m.history.open_ [] entry m
+
+  of_definition : (is_first : Bool) (why : Option Text) (entry : Entry) (m : Machine) → F m (definition_by d opening made is_first why entry m).next
+  of_definition is_first (Some why) entry m = noting entry m
+  of_definition is_first None entry m = bound is_first entry m
+
+  -- ---- the others
+
+  starts : (open_ : Bool) (modes : NewModes) (entry : Entry) (m : Machine) → F m (attempt_start d opening made open_ modes entry m).next
+  starts true modes entry m = noting entry m
+  starts false modes entry m = let n = named d opening made modes entry.session m in let e = begins_event d opening made n entry.session in through m n (takes d opening made e n) (sets entry.session (record (settings_of m entry.session) { next = joined modes (settings_of m entry.session).next }) m m (stays m)) (taken e n)
+
+  commits_by : (how : Ending) (s : ℕ) (m : Machine) → F m (ended_by d opening made how s m).next
+  commits_by Empty s m = own_commits m s
+  commits_by Fits s m = own_commits m s
+  commits_by TooManyChanges s m = stays m
+  commits_by LogFull s m = stays m
+
+  commits : (found : Option Open) (s : ℕ) (m : Machine) → F m (attempt_commit d opening made found s m).next
+  commits None s m = stays m
+  commits (Some o) s m = commits_by (ending_of d opening made m (commit_of o)) s m
+
+  rolls_back : (open_ : Bool) (s : ℕ) (m : Machine) → F m (attempt_rollback d opening made open_ s m).next
+  rolls_back false s m = stays m
+  rolls_back true s m = leaves s m
+
+  readies : (control : Control) (s : ℕ) (m : Machine) → F m (ready d opening made control s m)
+  readies control s m = either (is_savepoint control && not (settings_of m s).autocommit && not (is_open m s)) m (takes d opening made (begins_event d opening made m s) m) m (taken (begins_event d opening made m s) m) (stays m)
+
+  controls : (control : Control) (s : ℕ) (m : Machine) → F m (in_transaction d opening made control s m).next
+  controls control s m =
+      let e = event m s false false (act.Says (OnSession control)) in
+      sets s (settings_in (controlled control (session_seen (settings_of m s) (open_of m s))).1) m (noted_control d opening made control s m) (either (is_open m s) m (happens d opening e m) m (goes e m) (stays m))
+
+  by_request : (r : Request) (is_first : Bool) (entry : Entry) (m : Machine) → F m (attempt_by d opening made r is_first entry m).next
+  by_request (request.Faulty why) is_first entry m = noting entry m
+  by_request request.OfData is_first entry m = let o = own_of d opening made m (data_event d opening made m entry false) in of_data (d.refusal o.read_only (seen_by d opening made m o) entry.text) entry o m
+  by_request request.OfDefinition is_first entry m = let o = own_of d opening made m (commits_event d opening made m entry.session) in of_definition is_first (d.refusal o.read_only (seen_by d opening made m o) entry.text) entry m
+  by_request (request.Starts modes) is_first entry m = starts (is_open m entry.session) modes entry m
+  by_request request.Commits is_first entry m = commits (open_of m entry.session) entry.session m
+  by_request request.RollsBack is_first entry m = rolls_back (is_open m entry.session) entry.session m
+  by_request (request.OnSettings control) is_first entry m = let n = ready d opening made control entry.session m in through m n (in_transaction d opening made control entry.session n).next (readies control entry.session m) (controls control entry.session n)
+
+  pub attempts : (is_first : Bool) (entry : Entry) (m : Machine) → F m (attempt d opening made is_first entry m).next
+  attempts is_first entry m = by_request (d.request entry.text) is_first entry m

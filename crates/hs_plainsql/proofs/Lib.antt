@@ -1,0 +1,7 @@
+pub mod Bytes
+pub mod Catalogues
+pub mod Changes
+pub mod Names
+pub mod Rows
+pub mod Sql
+pub mod Values

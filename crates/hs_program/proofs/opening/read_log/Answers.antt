@@ -1,0 +1,99 @@
+use Rattle.std.proofs.Common.{◌≡◌, List, ℕ, Ok, Err, sym, ap, subst, ◌∙◌}
+use Rattle.hs_host.specs.Files.{IsOpen}
+use Rattle.hs_host.specs.Used.{Told}
+use Rattle.hs_host.proofs.Used.{told_back, told_on}
+use Rattle.hs_host.specs.Files.{Five}
+use Rattle.hs_log.specs.Log.{is_broken, texts_of}
+use Rattle.hs_run.specs.Stop.{NoFaults}
+use Rattle.hs_run.proofs.Stops.{disk_calm, no_faults_on}
+use Rattle.hs_program.specs.declared.fault.OpenFault.TheVariants.{Damaged}
+use Rattle.hs_program.specs.Opening.{given, opened_of}
+use Rattle.hs_program.specs.Stop.{OpenStops, fault_of}
+use Rattle.hs_program.proofs.Alone.{alone_behind, changes_alone, reads_alone}
+use Rattle.hs_program.proofs.Openings.{still_opening, settle_opening}
+use Rattle.hs_program.proofs.Replayed.{born_texts, damaged_never, opened_is}
+use Rattle.hs_program.proofs.Stops.{ends_by, open_open, settle_open}
+use Rattle.hs_program.proofs.opening.read_log.Goals as goal
+use Rattle.hs_program.proofs.opening.read_log.Goals.{After-settle}
+
+-- what the log gives
+gives : (g : _) (c : After-settle g) → Told g.H.Source g.H.Host c.args.host.now → opened_of g.E.Engine.meaning (g.H.Host.files c.args.host.now).log ≡ Ok c.in-Ok.ensures.redoes.opened
+gives g c told =
+    let log = (g.H.Host.files c.args.host.now).log in
+    opened_is g.E.Engine.meaning log (c.requires.reading.born told) (c.requires.begun told).0
+    ∙ ap (λ (ts : List (List ℕ)). given g.E.Engine.meaning (is_broken log) ts) (sym (c.requires.begun told).1)
+    ∙ c.in-Ok.ensures.redoes.is told
+
+pub returns-in-Err-clause-damaged : goal.returns-in-Err-clause-damaged
+returns-in-Err-clause-damaged g c = λ told number is.
+    let log = (g.H.Host.files c.args.host.now).log in
+    let why : c.in-Err.fault ≡ Damaged number = cc in
+    opened_is g.E.Engine.meaning log (c.requires.reading.born told) (c.requires.begun told).0
+    ∙ ap (λ (ts : List (List ℕ)). given g.E.Engine.meaning (is_broken log) ts) (sym (c.requires.begun told).1)
+    ∙ c.in-Err.ensures.damaged told number (ap Err why)
+
+pub returns-in-Err-clause-untouched : goal.returns-in-Err-clause-untouched
+returns-in-Err-clause-untouched g c = λ told number is. c.redo_all.ensures.reads.files told
+
+pub returns-in-Err-clause-kept : goal.returns-in-Err-clause-kept
+returns-in-Err-clause-kept g c = λ told number is. c.redo_all.ensures.reads.files told
+
+pub returns-in-Err-clause-moments : goal.returns-in-Err-clause-moments
+returns-in-Err-clause-moments g c = λ told quiet. still_opening g.E.Engine.meaning _ quiet (c.redo_all.ensures.reads.moments told)
+
+pub returns-in-Err-clause-moves : goal.returns-in-Err-clause-moves
+returns-in-Err-clause-moves g c = reads_alone c.redo_all.ensures.reads
+
+pub returns-in_err-log-clause-kept : goal.returns-in_err-log-clause-kept
+returns-in_err-log-clause-kept g c = λ told number is.
+    absurd (damaged_never _ number (sym (gives g (goal.at.returns-in_err-log-clause-kept g c).After-settle told) ∙ is))
+
+pub returns-in_err-log-clause-moments : goal.returns-in_err-log-clause-moments
+returns-in_err-log-clause-moments g c = λ told quiet.
+    settle_opening g.E.Engine.meaning (g.H.Host.files c.args.host.now) (g.H.Host.files c.redo_all.new.host) (c.redo_all.ensures.reads.files told) quiet (c.redo_all.ensures.reads.moments told)
+    (c.settle.ensures.changes.moments (told_on c.redo_all.ensures.reads.uses told))
+
+pub returns-in_err-log-clause-moves : goal.returns-in_err-log-clause-moves
+returns-in_err-log-clause-moves g c = alone_behind (reads_alone c.redo_all.ensures.reads) (changes_alone c.settle.ensures.changes)
+
+pub returns-in_err-log-clause-stops : goal.returns-in_err-log-clause-stops
+returns-in_err-log-clause-stops g c =
+    let why = c.in_err-log.field-0.0 in
+    let here = c.redo_all.new.host in
+    ends_by (NoFaults g.H.Source g.H.Host c.args.host.now c.settle.new.host) (OpenStops g.H.Source g.H.Host c.args.host.now c.settle.new.host) c.from_residual.result (fault_of why) c.from_residual.ensures.1
+    (open_open g.H.Source g.H.Host (fault_of why) c.args.host.now here c.settle.new.host c.in-Ok.ensures.stops
+    (settle_open g.H.Source g.H.Host why here c.settle.new.host c.settle.ensures.changes.uses c.in_err-log.ensures.fails))
+
+pub returns-clause-opens : goal.returns-clause-opens
+returns-clause-opens g c =
+    let r = c.in-Ok.ensures.redoes in
+    let reads = c.redo_all.ensures.reads in
+    let changes = c.settle.ensures.changes in
+    let log = c.in_ok-log.ensures in
+    record {
+      opened = r.opened;
+      stands = r.stands;
+      reached = r.reached;
+      is = gives g (goal.at.returns-clause-opens g c).After-settle;
+      host = subst IsOpen (sym (changes.uses.standing ∙ reads.uses.standing)) c.requires.reading.opened;
+      epoch = log.epoch;
+      log = λ told. log.log (told_back changes.uses told);
+      texts = λ told.
+          log.texts (told_on reads.uses told) ∙ ap (λ (f : Five (List ℕ)). texts_of f.log) (reads.files told)
+          ∙ sym (born_texts (g.H.Host.files c.args.host.now).log (c.requires.reading.born told));
+    }
+
+pub returns-clause-kept : goal.returns-clause-kept
+returns-clause-kept g c = λ told number is.
+    absurd (damaged_never _ number (sym (gives g (goal.at.returns-clause-kept g c).After-settle told) ∙ is))
+
+pub returns-clause-moments : goal.returns-clause-moments
+returns-clause-moments g c = λ told quiet.
+    settle_opening g.E.Engine.meaning (g.H.Host.files c.args.host.now) (g.H.Host.files c.redo_all.new.host) (c.redo_all.ensures.reads.files told) quiet (c.redo_all.ensures.reads.moments told)
+    (c.settle.ensures.changes.moments (told_on c.redo_all.ensures.reads.uses told))
+
+pub returns-clause-moves : goal.returns-clause-moves
+returns-clause-moves g c = alone_behind (reads_alone c.redo_all.ensures.reads) (changes_alone c.settle.ensures.changes)
+
+pub returns-clause-stops : goal.returns-clause-stops
+returns-clause-stops g c = no_faults_on c.in-Ok.ensures.stops (disk_calm c.settle.ensures.changes.uses c.in_ok-log.ensures.fails)

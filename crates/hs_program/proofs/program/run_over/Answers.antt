@@ -1,0 +1,154 @@
+use Rattle.std.proofs.Common.{inr, refl}
+use Rattle.hs_host.specs.Used.{Told}
+use Rattle.hs_program.specs.declared.status.Status.TheVariants.{Usage}
+use Rattle.hs_program.specs.Run.{Runs}
+use Rattle.hs_program.proofs.Stops.{calm_by, complete_as, complete_damaged_as, complete_long_as, foreign_by, foreign_kept, silent_by}
+use Rattle.hs_program.proofs.Worked.{idle_runs}
+use Rattle.hs_program.proofs.program.run_over.Goals as goal
+use Rattle.hs_program.proofs.program.run_over.Goals.{After-serve, In_default}
+
+-- ---- what a run did
+
+idle : (g : _) (c : In_default g) → Told g.H.Source g.H.Host c.args.host.now
+    → Runs g.E.Engine.meaning (g.H.Host.files c.args.host.now) (g.H.Source.unread c.args.host.now) (g.H.Host.written c.args.host.now) (g.H.Host.history c.args.host.now) (g.H.Host.files c.args.host.now) (g.H.Host.written c.args.host.now)
+    (g.H.Host.history c.args.host.now) Usage
+idle g c told =
+    let host = c.args.host.now in
+    idle_runs g.E.Engine.meaning (g.H.Host.files host) (g.H.Source.unread host) (g.H.Host.written host) (g.H.Host.history host) (g.met.H.Host.output_now host told.tells) Usage refl
+
+pub returns-in_default-clause-front : goal.returns-in_default-clause-front
+returns-in_default-clause-front g c = λ tells honest. (idle g (goal.at.returns-in_default-clause-front g c).In_default (record { tells = tells; honest = honest })).front
+
+pub returns-in_default-clause-done : goal.returns-in_default-clause-done
+returns-in_default-clause-done g c = λ tells honest. (idle g (goal.at.returns-in_default-clause-done g c).In_default (record { tells = tells; honest = honest })).done
+
+pub returns-in_default-clause-before_too_long : goal.returns-in_default-clause-before_too_long
+returns-in_default-clause-before_too_long g c = λ tells honest. (idle g (goal.at.returns-in_default-clause-before_too_long g c).In_default (record { tells = tells; honest = honest })).before_too_long
+
+pub returns-in_default-clause-log : goal.returns-in_default-clause-log
+returns-in_default-clause-log g c = λ tells honest. (idle g (goal.at.returns-in_default-clause-log g c).In_default (record { tells = tells; honest = honest })).log
+
+pub returns-in_default-clause-reopens : goal.returns-in_default-clause-reopens
+returns-in_default-clause-reopens g c = λ tells honest. (idle g (goal.at.returns-in_default-clause-reopens g c).In_default (record { tells = tells; honest = honest })).reopens
+
+pub returns-in_default-clause-others : goal.returns-in_default-clause-others
+returns-in_default-clause-others g c = λ tells honest. (idle g (goal.at.returns-in_default-clause-others g c).In_default (record { tells = tells; honest = honest })).others
+
+pub returns-in_default-clause-crash : goal.returns-in_default-clause-crash
+returns-in_default-clause-crash g c = λ tells honest. (idle g (goal.at.returns-in_default-clause-crash g c).In_default (record { tells = tells; honest = honest })).crash
+
+pub returns-in_default-clause-safe : goal.returns-in_default-clause-safe
+returns-in_default-clause-safe g c = λ tells honest. (idle g (goal.at.returns-in_default-clause-safe g c).In_default (record { tells = tells; honest = honest })).safe
+
+pub returns-in_default-clause-left : goal.returns-in_default-clause-left
+returns-in_default-clause-left g c = λ tells honest. (idle g (goal.at.returns-in_default-clause-left g c).In_default (record { tells = tells; honest = honest })).left
+
+pub returns-in_default-clause-begun : goal.returns-in_default-clause-begun
+returns-in_default-clause-begun g c = λ tells honest. (idle g (goal.at.returns-in_default-clause-begun g c).In_default (record { tells = tells; honest = honest })).begun
+
+pub returns-in_default-clause-alone : goal.returns-in_default-clause-alone
+returns-in_default-clause-alone g c = λ tells honest. (idle g (goal.at.returns-in_default-clause-alone g c).In_default (record { tells = tells; honest = honest })).alone
+
+pub returns-in_default-clause-damaged : goal.returns-in_default-clause-damaged
+returns-in_default-clause-damaged g c = λ tells honest. (idle g (goal.at.returns-in_default-clause-damaged g c).In_default (record { tells = tells; honest = honest })).damaged
+
+pub returns-in_default-clause-damage : goal.returns-in_default-clause-damage
+returns-in_default-clause-damage g c = λ tells honest. (idle g (goal.at.returns-in_default-clause-damage g c).In_default (record { tells = tells; honest = honest })).damage
+
+pub returns-in_default-clause-kept : goal.returns-in_default-clause-kept
+returns-in_default-clause-kept g c = λ tells honest. (idle g (goal.at.returns-in_default-clause-kept g c).In_default (record { tells = tells; honest = honest })).kept
+
+pub returns-in_default-clause-damaged_kept : goal.returns-in_default-clause-damaged_kept
+returns-in_default-clause-damaged_kept g c = λ tells honest. (idle g (goal.at.returns-in_default-clause-damaged_kept g c).In_default (record { tells = tells; honest = honest })).damaged_kept
+
+pub returns-clause-front : goal.returns-clause-front
+returns-clause-front g c = λ tells honest. (c.serve.ensures.runs (record { tells = tells; honest = honest })).front
+
+pub returns-clause-done : goal.returns-clause-done
+returns-clause-done g c = λ tells honest. (c.serve.ensures.runs (record { tells = tells; honest = honest })).done
+
+pub returns-clause-before_too_long : goal.returns-clause-before_too_long
+returns-clause-before_too_long g c = λ tells honest. (c.serve.ensures.runs (record { tells = tells; honest = honest })).before_too_long
+
+pub returns-clause-log : goal.returns-clause-log
+returns-clause-log g c = λ tells honest. (c.serve.ensures.runs (record { tells = tells; honest = honest })).log
+
+pub returns-clause-reopens : goal.returns-clause-reopens
+returns-clause-reopens g c = λ tells honest. (c.serve.ensures.runs (record { tells = tells; honest = honest })).reopens
+
+pub returns-clause-others : goal.returns-clause-others
+returns-clause-others g c = λ tells honest. (c.serve.ensures.runs (record { tells = tells; honest = honest })).others
+
+pub returns-clause-crash : goal.returns-clause-crash
+returns-clause-crash g c = λ tells honest. (c.serve.ensures.runs (record { tells = tells; honest = honest })).crash
+
+pub returns-clause-safe : goal.returns-clause-safe
+returns-clause-safe g c = λ tells honest. (c.serve.ensures.runs (record { tells = tells; honest = honest })).safe
+
+pub returns-clause-left : goal.returns-clause-left
+returns-clause-left g c = λ tells honest. (c.serve.ensures.runs (record { tells = tells; honest = honest })).left
+
+pub returns-clause-begun : goal.returns-clause-begun
+returns-clause-begun g c = λ tells honest. (c.serve.ensures.runs (record { tells = tells; honest = honest })).begun
+
+pub returns-clause-alone : goal.returns-clause-alone
+returns-clause-alone g c = λ tells honest. (c.serve.ensures.runs (record { tells = tells; honest = honest })).alone
+
+pub returns-clause-damaged : goal.returns-clause-damaged
+returns-clause-damaged g c = λ tells honest. (c.serve.ensures.runs (record { tells = tells; honest = honest })).damaged
+
+pub returns-clause-damage : goal.returns-clause-damage
+returns-clause-damage g c = λ tells honest. (c.serve.ensures.runs (record { tells = tells; honest = honest })).damage
+
+pub returns-clause-kept : goal.returns-clause-kept
+returns-clause-kept g c = λ tells honest. (c.serve.ensures.runs (record { tells = tells; honest = honest })).kept
+
+pub returns-clause-damaged_kept : goal.returns-clause-damaged_kept
+returns-clause-damaged_kept g c = λ tells honest. (c.serve.ensures.runs (record { tells = tells; honest = honest })).damaged_kept
+
+-- ---- what it read, and how it ended
+
+pub returns-clause-read : goal.returns-clause-read
+returns-clause-read g c = λ tells done. (c.serve.ensures.read tells done).0
+
+pub returns-clause-done_within : goal.returns-clause-done_within
+returns-clause-done_within g c = λ tells done. (c.serve.ensures.read tells done).1
+
+pub returns-clause-input_fault : goal.returns-clause-input_fault
+returns-clause-input_fault g c = λ is. rw is at c.serve.ensures.ends
+
+pub returns-clause-output_fault : goal.returns-clause-output_fault
+returns-clause-output_fault g c = λ is. rw is at c.serve.ensures.ends
+
+pub returns-clause-disk_fault : goal.returns-clause-disk_fault
+returns-clause-disk_fault g c = λ is. rw is at c.serve.ensures.ends
+
+pub returns-clause-no_fault : goal.returns-clause-no_fault
+returns-clause-no_fault g c = calm_by g.H.Source g.H.Host c.serve.result c.args.host.now c.serve.new.host c.serve.ensures.ends
+
+pub returns-clause-foreign : goal.returns-clause-foreign
+returns-clause-foreign g c = λ tells is. foreign_by g.H.Source g.H.Host c.serve.result c.args.host.now c.serve.new.host c.serve.ensures.ends is tells
+
+pub returns-clause-foreign_kept : goal.returns-clause-foreign_kept
+returns-clause-foreign_kept g c = λ tells is. foreign_kept g.H.Source g.H.Host c.serve.result c.args.host.now c.serve.new.host c.serve.ensures.ends is tells
+
+pub returns-clause-own : goal.returns-clause-own
+returns-clause-own g c = λ tells foreign. inr (c.serve.ensures.own tells foreign)
+
+pub returns-clause-silent : goal.returns-clause-silent
+returns-clause-silent g c = λ damaged. let silent = silent_by g.H.Source g.H.Host c.serve.result c.args.host.now c.serve.new.host c.serve.ensures.ends damaged in (silent.written, silent.unread)
+
+-- where no device fails
+pub returns-clause-complete : goal.returns-clause-complete
+returns-clause-complete g c = λ tells honest own words input output disk opened is short.
+    complete_as g.H.Source g.H.Host c.serve.result c.args.host.now c.serve.new.host c.serve.ensures.ends tells own input output disk
+    (c.serve.ensures.runs (record { tells = tells; honest = honest })).damaged (c.serve.ensures.too_long tells) opened is short
+
+pub returns-clause-complete_too_long : goal.returns-clause-complete_too_long
+returns-clause-complete_too_long g c = λ tells honest own words input output disk opened is long.
+    complete_long_as g.H.Source g.H.Host c.serve.result c.args.host.now c.serve.new.host c.serve.ensures.ends tells own input output disk
+    (c.serve.ensures.runs (record { tells = tells; honest = honest })).damaged (λ done. (c.serve.ensures.read tells done).1) opened is long
+
+pub returns-clause-complete_damaged : goal.returns-clause-complete_damaged
+returns-clause-complete_damaged g c = λ tells honest own words disk number is.
+    complete_damaged_as g.H.Source g.H.Host c.serve.result c.args.host.now c.serve.new.host c.serve.ensures.ends tells own disk number ((c.serve.ensures.runs (record { tells = tells; honest = honest })).damage number is)

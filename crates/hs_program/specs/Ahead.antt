@@ -1,0 +1,36 @@
+-- What is ahead of a run over a log, and what it tells, makes and ends with.
+use Rattle.std.specs.Prelude.{ℕ, List, [], take, Result, Ok, Err}
+use Rattle.hs_entries.specs.Items.{items, whole_items}
+use Rattle.hs_run.specs.Future.{Future}
+use Rattle.hs_run.specs.Pieces.{made_by, transcript, transcript_within}
+use Rattle.hs_run.specs.Running.{pieces}
+use Rattle.hs_program.specs.Meaning.{Meaning, Opened}
+use Rattle.hs_program.specs.Opening.{opened_of, size_at}
+
+-- all that is written over an input
+abbrev pub all_told : Future → List ℕ → List ℕ
+all_told f input = transcript f.commits (pieces f (items 1 input))
+
+-- what is written over the items that are whole in the first bytes of an input, and the first line before it
+abbrev pub told_within : ℕ → Future → List ℕ → List ℕ
+told_within limit f input = transcript_within f.commits (f.taken (whole_items 1 (take limit input)))
+
+-- the texts of all commits that are made over an input
+abbrev pub texts_from : Future → List ℕ → List (List ℕ)
+texts_from f input = made_by (pieces f (items 1 input))
+
+-- what is ahead of a run over a log that gives this
+abbrev pub ahead : Meaning → List ℕ → Opened → Future
+ahead m log opened = m.future opened (size_at log)
+
+-- what there is when that run has ended
+abbrev pub ended_with : Meaning → List ℕ → Opened → List ℕ → Opened
+ended_with m log opened input = m.ended opened (size_at log) (items 1 input)
+
+-- all that it writes, over what its log gives
+abbrev pub shown_over : Meaning → List ℕ → List ℕ → Result Opened ℕ → List ℕ
+shown_over m log input (Ok opened) = all_told (ahead m log opened) input
+shown_over m log input (Err number) = []
+
+abbrev pub shown : Meaning → List ℕ → List ℕ → List ℕ
+shown m log input = shown_over m log input (opened_of m log)

@@ -1,0 +1,48 @@
+-- What a crash leaves of the database while a run is at work.
+use Rattle.std.specs.Prelude.{◌≡◌, ◌⊎◌, ℕ, List, take, Ok}
+use Rattle.hs_durable.specs.Durable.{Point, IsBirth, Survives as PointSurvives}
+use Rattle.hs_host.specs.Disk.{Leaves, settled}
+use Rattle.hs_host.specs.Files.{Five}
+use Rattle.hs_host.specs.Moments.{Moment, disk_of}
+use Rattle.hs_host.specs.declared.file_kind.FileKind.TheVariants.{Log}
+use Rattle.hs_run.specs.Crash.{AcknowledgesBehind, HasNoLine}
+use Rattle.hs_program.specs.Ahead.{ahead, texts_from}
+use Rattle.hs_program.specs.Meaning.{Meaning, Opened}
+use Rattle.hs_program.specs.Opening.{opened_of, replayed, texts_at}
+
+-- what a log stands for: its texts, none where it isn't born
+abbrev pub point_of : List ℕ → Point
+point_of log = record { epoch = 1; logged = texts_at log }
+
+-- the log was all on the disk
+abbrev pub IsQuiet : Five (List ℕ) → Moment → Type 0
+IsQuiet files m = disk_of m Log ≡ settled files.log
+
+-- These bytes of a log have the commits that a run found, and then the first so many of those that it makes. The next run
+-- begins with what these make of what the run found. No later commit was acknowledged, and until the first line is whole
+-- none of the run's own is among them.
+pub record Survives (m : Meaning) (old : List ℕ) (opened : Opened) (input before out log : List ℕ) : Type 0 where
+  pub by : PointSurvives (point_of old) (texts_from (ahead m old opened) input) 0 (point_of log)
+  pub state : Opened
+  pub made : replayed m opened (take by.count (texts_from (ahead m old opened) input)) ≡ Ok state
+  pub reopens : opened_of m log ≡ Ok state
+  pub told : AcknowledgesBehind before out state.commits
+  pub begun : HasNoLine before out → by.count ≡ 0
+
+-- so it is whatever a crash at this moment leaves of the log
+abbrev pub IsSafe : Meaning → List ℕ → Opened → List ℕ → List ℕ → Moment → Type 0
+IsSafe m old opened input before at = (log : List ℕ) → Leaves (disk_of at Log) log → Survives m old opened input before at.out log
+
+-- At a moment of a run that began with these files: a log that wasn't born is being made, or all survives.
+abbrev pub IsKept : Meaning → Five (List ℕ) → Opened → List ℕ → List ℕ → Moment → Moment → Type 0
+IsKept m files opened input before start at = IsBirth files start at ⊎ IsSafe m files.log opened input before at
+
+-- a log gives what another gives, and by the same commits
+abbrev pub GivesSame : Meaning → List ℕ → List ℕ → Type 0
+GivesSame m old log = (opened_of m log ≡ opened_of m old) × (texts_at log ≡ texts_at old)
+
+-- While the log is opened nothing is written, and a log that wasn't born is being made, or whatever a crash leaves gives
+-- what was found.
+pub record IsFound (m : Meaning) (files : Five (List ℕ)) (start at : Moment) : Type 0 where
+  pub out : at.out ≡ start.out
+  pub left : IsBirth files start at ⊎ ((log : List ℕ) → Leaves (disk_of at Log) log → GivesSame m files.log log)

@@ -1,0 +1,10 @@
+pub mod Ahead
+pub mod Command
+pub mod Crash
+pub mod Damaged
+pub mod Lawful
+pub mod Meaning
+pub mod Mounting
+pub mod Opening
+pub mod Run
+pub mod Stop

@@ -1,0 +1,23 @@
+-- What a database is to a run.
+use Rattle.std.specs.Prelude.{ℕ, List, Option, None}
+use Rattle.hs_database.specs.Database.{Database}
+use Rattle.hs_entries.specs.declared.item.Item.{Item}
+use Rattle.hs_run.specs.Future.{Future}
+
+-- what the texts of a log made so far: the database, the session of the last of them, none where there is none, and how many
+-- there are
+pub record Opened : Type 0 where
+  pub database : Database
+  pub last : Option ℕ
+  pub commits : ℕ
+
+-- The database before any commit; what a text makes of what those before it made, none where it makes nothing; what is ahead of a
+-- run over that, where the log has so many bytes; and what there is when a run over these items has ended.
+pub record Meaning : Type 0 where
+  pub empty : Database
+  pub redone : Opened → List ℕ → Option Opened
+  pub future : Opened → ℕ → Future
+  pub ended : Opened → ℕ → List Item → Opened
+
+abbrev pub nothing_logged : Meaning → Opened
+nothing_logged m = record { database = m.empty; last = None; commits = 0 }

@@ -1,0 +1,42 @@
+// What makes commits again and takes turns.
+ghost use Rattle.std.specs.Prelude.{◌≡◌, ◌<◌, ◌^◌, Some, None, true, false, IfOk};
+ghost use Rattle.hs_program.specs.Lawful.{IsLawful, IsStanding};
+ghost use Rattle.hs_program.specs.Meaning.{Meaning, Opened, nothing_logged};
+
+use hs_run::Turns;
+use std::alloc::{AllocError, Global};
+
+/// What a database is to a run: it makes commits again from their texts, and then takes turns.
+pub trait Engine {
+    /// What takes turns over it.
+    type Work: Turns + Drop;
+
+    /// What texts make of it, and what is ahead of a run over it.
+    ghost meaning: { Meaning };
+
+    /// It stands for what some texts made.
+    ghost stands_for: { Self → Opened → Type 0 };
+
+    /// A database before any commit. Takes no memory.
+    fn new(alloc: Global) -> Self
+        ensures { stands_for result (nothing_logged meaning) };
+
+    /// The session of the last commit, and none where there is none.
+    fn last(&self) -> Option<u32>
+        ensures { (opened : Opened) → stands_for self.now opened → result ≡ opened.last };
+
+    /// Makes a commit again from its text, and answers whether that could be done. Where it couldn't, and after an `Err`, which is
+    /// want of memory, nothing is known of this.
+    fn redo(&mut self, text: &[u8]) -> Result<bool, AllocError>
+        requires stands { (standing : IsStanding meaning stands_for self.old) × (standing.opened.commits < 2 ^ 63) }
+        ensures made { IfOk result (λ made. made ≡ true → (opened : Opened) → stands_for self.old opened → (next : Opened) × ((meaning.redone opened text.now ≡ Some next) × stands_for self.new next)) }
+        ensures none { IfOk result (λ made. made ≡ false → (opened : Opened) → stands_for self.old opened → meaning.redone opened text.now ≡ None) };
+
+    /// What takes turns over it, where the log has so many bytes before the one that ends it. Takes no memory.
+    fn turns(self, size: u64) -> Self::Work
+        requires stands { IsStanding meaning stands_for self }
+        ensures ahead { (opened : Opened) → stands_for self opened → Self.Work.has_ahead result (meaning.future opened size) };
+
+    /// What is told of commits is true, and what is made can be made again.
+    ghost lawful: { IsLawful meaning };
+}

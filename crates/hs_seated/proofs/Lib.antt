@@ -1,0 +1,5 @@
+pub mod Counted
+pub mod Listed
+pub mod Made
+pub mod Seating
+pub mod SetBack

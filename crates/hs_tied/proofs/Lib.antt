@@ -1,0 +1,9 @@
+pub mod Changed
+pub mod Lists
+pub mod Numbers
+pub mod Ways
+pub mod Blocking
+pub mod Settled
+pub mod Moving
+pub mod Waiting
+pub mod Calls
