@@ -1,5 +1,5 @@
 -- A statement has one answer beside want of memory.
-use Rattle.std.proofs.Common.{◌≡◌, ◌⊎◌, inl, inr, ℕ, zero, suc, ◌<◌, ◌≤◌, Bool, true, false, [], ◌∷◌, ◌++◌, List, Option, Some, None, Result, Ok, Err, refl, sym, ap, ◌∙◌, subst, arith}
+use Rattle.std.proofs.Common.{◌≡◌, [], List, Option, Some, None, Result, Ok, Err, sym, ap, ◌∙◌}
 use Rattle.std.specs.Option.{option_map}
 use Rattle.hs_ast.specs.declared.definition.AlterAction.{AlterAction}
 use Rattle.hs_ast.specs.declared.definition.AlterAction.TheVariants as action
@@ -10,17 +10,13 @@ use Rattle.hs_ast.specs.declared.statement.Stmt.TheVariants as s
 use Rattle.hs_ast.specs.declared.word.Identifier.{Identifier}
 use Rattle.hs_bound.specs.Answers.{answer, answer_by, answer_of}
 use Rattle.hs_bound.specs.Bound.{altered, bound, by_names, index_on, named}
-use Rattle.hs_bound.specs.Naming.{names_from}
-use Rattle.hs_bound.proofs.Naming.{are_named}
+use Rattle.hs_bound.proofs.Naming.{named_so}
 use Rattle.hs_drops.specs.Answers.{Answer as Defined, AnswersIndex}
 use Rattle.hs_drops.specs.Definitions.{constraint_dropped, index_created, index_dropped, no_table, table_dropped}
 use Rattle.hs_elements.specs.Faults.{Text}
-use Rattle.hs_elements.specs.Names.{IsLeastFree, numbered}
-use Rattle.hs_elements.specs.declared.names.ConstraintKind.{ConstraintKind}
 use Rattle.hs_meaning.specs.Parts.{Meaning}
 use Rattle.hs_meaning.specs.Statements.{IsAnswer, query_meaning}
-use Rattle.hs_outlines.specs.Named.{AreNamed, IsNameBy, is_taken, written}
-use Rattle.hs_outlines.specs.declared.written.Written.{Written}
+use Rattle.hs_outlines.specs.Named.{written}
 use Rattle.hs_plan.specs.Fault.{fault_of}
 use Rattle.hs_plan.specs.declared.definition.Definition.TheVariants as d
 use Rattle.hs_plan.specs.declared.fault.BindFault.{BindFault}
@@ -60,47 +56,11 @@ module _ {A : Type 0} (faults : List PlacedFault) (part : Option A) where
 
 -- ---- one list of names
 
-not_less : (taken : Text → Bool) (table : Text) (kind : ConstraintKind) (n m : ℕ) → IsLeastFree taken table kind n → IsLeastFree taken table kind m → n < m → ⊥
-not_less taken table kind n m a b l = let no : true ≡ false = sym (b.least n a.counts l) ∙ a.free in cc
-
-either : (p q : ℕ) → (p < q) ⊎ (q ≤ p)
-either p zero = inr (omega arith)
-either zero (suc q) = inl (omega arith)
-either (suc p) (suc q) = elim (either p q) [ inl l ↦ inl (omega (arith, l)) | inr h ↦ inr (omega (arith, h)) ]
-
-one_number : (taken : Text → Bool) (table : Text) (kind : ConstraintKind) (n m : ℕ) → IsLeastFree taken table kind n → IsLeastFree taken table kind m → n ≡ m
-one_number taken table kind n m a b = elim (either n m) [
-  | inl l ↦ absurd (not_less taken table kind n m a b l)
-  | inr h ↦ elim (either m n) [ inl k ↦ absurd (not_less taken table kind m n b a k) | inr k ↦ omega (arith, h, k) ]
-]
-
-one_name : (o : Option Identifier) (things : Things) (table : Text) (given : List Text) (kind : ConstraintKind) (a b : Text) → IsNameBy o things table given kind a → IsNameBy o things table given kind b → a ≡ b
-one_name (Some own) things table given kind a b x y = x ∙ sym y
-one_name None things table given kind a b x y =
-    x.spelled ∙ (ap (numbered table kind) (one_number (is_taken things given) table kind x.n y.n x.least y.least) ∙ sym y.spelled)
-
-one_naming : (things : Things) (table : Text) (given : List Text) (ws : List Written) (a b : List Text) → AreNamed things table given ws a → AreNamed things table given ws b → a ≡ b
-one_naming things table given [] [] [] x y = refl
-one_naming things table given [] [] (n ∷ ns) x y = absurd y
-one_naming things table given [] (n ∷ ns) b x y = absurd x
-one_naming things table given (w ∷ ws) [] b x y = absurd x
-one_naming things table given (w ∷ ws) (n ∷ ns) [] x y = absurd y
-one_naming things table given (w ∷ ws) (n ∷ ns) (m ∷ ms) x y =
-    let first : n ≡ m = one_name w.name things table given w.kind n m x.0 y.0 in
-    let rest : ns ≡ ms = one_naming things table (given ++ m ∷ []) ws ns ms (subst (λ z. AreNamed things table (given ++ z ∷ []) ws ns) first x.1) y.1 in
-    cc
-
-named_one : (things : Things) (table : Text) (elements : List TableElement) (means : ByNames) (o : Option (List Text)) → names_from things table [] (written elements) ≡ o
-    → (r : Defined) → AnswersNamed things table elements means r → IsThere r → IsThere (by_names means o) → r ≡ by_names means o
-named_one things table elements means None e r is some there = absurd (there refl)
-named_one things table elements means (Some names) e r is some there =
-    let its = is some in
-    let same : its.0 ≡ names = one_naming things table [] (written elements) its.0 names its.1.0 (are_named things table [] (written elements) names e) in
-    one (means its.0).faults (means its.0).part r its.1.1 some ∙ ap (λ z. answer (means z)) same
-
-named_alone : (things : Things) (table : Text) (elements : List TableElement) (means : ByNames) (r : Defined) → AnswersNamed things table elements means r → IsThere r → IsThere (named things table elements means)
+named_alone : (things : Things) (table : Text) (elements : List TableElement) (means : ByNames) (r : Defined) → AnswersNamed things table elements means r → IsThere r
     → r ≡ named things table elements means
-named_alone things table elements means r is some there = named_one things table elements means (names_from things table [] (written elements)) refl r is some there
+named_alone things table elements means r is some =
+    let its = is some in
+    one (means its.0).faults (means its.0).part r its.1.1 some ∙ ap (by_names means) (sym (named_so things table [] (written elements) its.0 its.1.0))
 
 -- ---- as plans
 
@@ -109,56 +69,56 @@ there_before make (Ok a) h = λ e. cc
 there_before make (Err f) h = λ e. h (ap (as_plan make) e)
 
 given : {A : Type 0} (make : A → Plan) (its : Result A BindFault) (IsRight : Result A BindFault → Type 0) (result : Answer)
-    → ((r : Result A BindFault) → IsRight r → IsThere r → IsThere its → r ≡ its) → Gives make IsRight result → IsThere result → IsThere (as_plan make its) → result ≡ as_plan make its
-given make its IsRight result alone is some there =
+    → ((r : Result A BindFault) → IsRight r → IsThere r → r ≡ its) → Gives make IsRight result → IsThere result → result ≡ as_plan make its
+given make its IsRight result alone is some =
     let before : IsThere is.0 = there_before make is.0 (λ e. some (is.1.1 ∙ e)) in
-    is.1.1 ∙ ap (as_plan make) (alone is.0 is.1.0 before (there_before make its there))
+    is.1.1 ∙ ap (as_plan make) (alone is.0 is.1.0 before)
 
-meaning_alone : {A : Type 0} (m : Meaning A) (r : Result A BindFault) → IsAnswer m.faults m.part r → IsThere r → IsThere (answer m) → r ≡ answer m
-meaning_alone m r is some there = one m.faults m.part r is some
+meaning_alone : {A : Type 0} (m : Meaning A) (r : Result A BindFault) → IsAnswer m.faults m.part r → IsThere r → r ≡ answer m
+meaning_alone m r is some = one m.faults m.part r is some
 
-index_alone : (things : Things) (c : CreateIndex) (o : Option Table) (r : Defined) → AnswersIndex things c o r → IsThere r → IsThere (index_on things c o) → r ≡ index_on things c o
-index_alone things c (Some t) r is some there = meaning_alone (index_created things c t) r is some there
-index_alone things c None r is some there = meaning_alone (no_table c.table) r is some there
+index_alone : (things : Things) (c : CreateIndex) (o : Option Table) (r : Defined) → AnswersIndex things c o r → IsThere r → r ≡ index_on things c o
+index_alone things c (Some t) r is some = meaning_alone (index_created things c t) r is some
+index_alone things c None r is some = meaning_alone (no_table c.table) r is some
 
-altered_alone : (things : Things) (table : Identifier) (a : AlterAction) (o : Option Table) (r : Defined) → AnswersAction things table a o r → IsThere r → IsThere (altered things table a o) → r ≡ altered things table a o
-altered_alone things table (action.AddColumn c) (Some t) r is some there = named_alone things table.name (by_column c) (column_added things table c t) r is some there
-altered_alone things table (action.AddColumn c) None r is some there = meaning_alone (no_table table) r is some there
-altered_alone things table (action.AddConstraint k) (Some t) r is some there = named_alone things table.name (by_constraint k) (constraint_added things table k t) r is some there
-altered_alone things table (action.AddConstraint k) None r is some there = meaning_alone (no_table table) r is some there
-altered_alone things table (action.DropConstraint name) (Some t) r is some there = meaning_alone (constraint_dropped t table name) r is some there
-altered_alone things table (action.DropConstraint name) None r is some there = meaning_alone (no_table table) r is some there
+altered_alone : (things : Things) (table : Identifier) (a : AlterAction) (o : Option Table) (r : Defined) → AnswersAction things table a o r → IsThere r → r ≡ altered things table a o
+altered_alone things table (action.AddColumn c) (Some t) r is some = named_alone things table.name (by_column c) (column_added things table c t) r is some
+altered_alone things table (action.AddColumn c) None r is some = meaning_alone (no_table table) r is some
+altered_alone things table (action.AddConstraint k) (Some t) r is some = named_alone things table.name (by_constraint k) (constraint_added things table k t) r is some
+altered_alone things table (action.AddConstraint k) None r is some = meaning_alone (no_table table) r is some
+altered_alone things table (action.DropConstraint name) (Some t) r is some = meaning_alone (constraint_dropped t table name) r is some
+altered_alone things table (action.DropConstraint name) None r is some = meaning_alone (no_table table) r is some
 
 means_alone : (p : Plan) (r : Answer) → IsAnswer [] (Some p) r → IsThere r → r ≡ Ok p
 means_alone p r is some = one [] (Some p) r is some
 
-pub alone : (things : Things) (statement : Stmt) (r : Answer) → AnswersStatement things statement r → IsThere r → IsThere (bound things statement) → r ≡ bound things statement
+pub alone : (things : Things) (statement : Stmt) (r : Answer) → AnswersStatement things statement r → IsThere r → r ≡ bound things statement
 unfolding bound
-alone things (s.Query q) r is some there =
-    given plan.Query (answer_of (query_meaning things q).faults (query_meaning things q).plan) _ r (λ x i t u. one (query_meaning things q).faults (query_meaning things q).plan x i t) is some there
-alone things (s.Insert i) r is some there = given plan.Insert (answer (insert_meaning things i)) _ r (meaning_alone (insert_meaning things i)) is some there
-alone things (s.Update u) r is some there = given plan.Update (answer (update_meaning things u)) _ r (meaning_alone (update_meaning things u)) is some there
-alone things (s.Delete x) r is some there = given plan.Delete (answer (delete_meaning things x)) _ r (meaning_alone (delete_meaning things x)) is some there
-alone things (s.LockTable locks) r is some there = given plan.LockTable (answer (locks_meaning things locks)) _ r (meaning_alone (locks_meaning things locks)) is some there
-alone things (s.CreateTable c) r is some there =
-    given plan.Define (named things c.name.name c.elements (table_created things c)) _ r (named_alone things c.name.name c.elements (table_created things c)) is some there
-alone things (s.CreateIndex c) r is some there =
-    given plan.Define (index_on things c (table_named things c.table.name)) _ r (index_alone things c (table_named things c.table.name)) is some there
-alone things (s.AlterTable a) r is some there =
-    given plan.Define (altered things a.table a.action (table_named things a.table.name)) _ r (altered_alone things a.table a.action (table_named things a.table.name)) is some there
-alone things (s.DropTable name) r is some there = given plan.Define (answer (table_dropped things name)) _ r (meaning_alone (table_dropped things name)) is some there
-alone things (s.DropIndex name) r is some there = given plan.Define (answer (index_dropped things name)) _ r (meaning_alone (index_dropped things name)) is some there
-alone things (s.SetControl control) r is some there = means_alone (plan.Define (d.SetControl control)) r is some
-alone things (s.SetDefaultLevel isolation) r is some there = means_alone (plan.Define (d.SetDefaultLevel (is_serializable isolation))) r is some
-alone things (s.SetAutocommit on) r is some there = means_alone (plan.Session (session.SetAutocommit on)) r is some
-alone things (s.SetCharacteristics modes) r is some there = means_alone (plan.Session (session.SetCharacteristics modes)) r is some
-alone things (s.SetTransaction modes) r is some there = means_alone (plan.Session (session.SetTransaction modes)) r is some
-alone things (s.StartTransaction modes) r is some there = means_alone (plan.Session (session.StartTransaction modes)) r is some
-alone things s.Commit r is some there = means_alone (plan.Session session.Commit) r is some
-alone things s.Rollback r is some there = means_alone (plan.Session session.Rollback) r is some
-alone things (s.Savepoint name) r is some there = means_alone (plan.Session (session.Savepoint name)) r is some
-alone things (s.RollbackTo name) r is some there = means_alone (plan.Session (session.RollbackTo name)) r is some
-alone things (s.ReleaseSavepoint name) r is some there = means_alone (plan.Session (session.ReleaseSavepoint name)) r is some
-alone things s.WriteDelayFalse r is some there = means_alone (plan.Session session.WriteDelayFalse) r is some
-alone things s.Checkpoint r is some there = means_alone (plan.Session session.Checkpoint) r is some
-alone things s.Shutdown r is some there = means_alone (plan.Session session.Shutdown) r is some
+alone things (s.Query q) r is some =
+    given plan.Query (answer_of (query_meaning things q).faults (query_meaning things q).plan) _ r (λ x i t. one (query_meaning things q).faults (query_meaning things q).plan x i t) is some
+alone things (s.Insert i) r is some = given plan.Insert (answer (insert_meaning things i)) _ r (meaning_alone (insert_meaning things i)) is some
+alone things (s.Update u) r is some = given plan.Update (answer (update_meaning things u)) _ r (meaning_alone (update_meaning things u)) is some
+alone things (s.Delete x) r is some = given plan.Delete (answer (delete_meaning things x)) _ r (meaning_alone (delete_meaning things x)) is some
+alone things (s.LockTable locks) r is some = given plan.LockTable (answer (locks_meaning things locks)) _ r (meaning_alone (locks_meaning things locks)) is some
+alone things (s.CreateTable c) r is some =
+    given plan.Define (named things c.name.name c.elements (table_created things c)) _ r (named_alone things c.name.name c.elements (table_created things c)) is some
+alone things (s.CreateIndex c) r is some =
+    given plan.Define (index_on things c (table_named things c.table.name)) _ r (index_alone things c (table_named things c.table.name)) is some
+alone things (s.AlterTable a) r is some =
+    given plan.Define (altered things a.table a.action (table_named things a.table.name)) _ r (altered_alone things a.table a.action (table_named things a.table.name)) is some
+alone things (s.DropTable name) r is some = given plan.Define (answer (table_dropped things name)) _ r (meaning_alone (table_dropped things name)) is some
+alone things (s.DropIndex name) r is some = given plan.Define (answer (index_dropped things name)) _ r (meaning_alone (index_dropped things name)) is some
+alone things (s.SetControl control) r is some = means_alone (plan.Define (d.SetControl control)) r is some
+alone things (s.SetDefaultLevel isolation) r is some = means_alone (plan.Define (d.SetDefaultLevel (is_serializable isolation))) r is some
+alone things (s.SetAutocommit on) r is some = means_alone (plan.Session (session.SetAutocommit on)) r is some
+alone things (s.SetCharacteristics modes) r is some = means_alone (plan.Session (session.SetCharacteristics modes)) r is some
+alone things (s.SetTransaction modes) r is some = means_alone (plan.Session (session.SetTransaction modes)) r is some
+alone things (s.StartTransaction modes) r is some = means_alone (plan.Session (session.StartTransaction modes)) r is some
+alone things s.Commit r is some = means_alone (plan.Session session.Commit) r is some
+alone things s.Rollback r is some = means_alone (plan.Session session.Rollback) r is some
+alone things (s.Savepoint name) r is some = means_alone (plan.Session (session.Savepoint name)) r is some
+alone things (s.RollbackTo name) r is some = means_alone (plan.Session (session.RollbackTo name)) r is some
+alone things (s.ReleaseSavepoint name) r is some = means_alone (plan.Session (session.ReleaseSavepoint name)) r is some
+alone things s.WriteDelayFalse r is some = means_alone (plan.Session session.WriteDelayFalse) r is some
+alone things s.Checkpoint r is some = means_alone (plan.Session session.Checkpoint) r is some
+alone things s.Shutdown r is some = means_alone (plan.Session session.Shutdown) r is some

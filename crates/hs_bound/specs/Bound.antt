@@ -1,5 +1,5 @@
 -- What every statement means over a catalogue, as a function: its plan, or its least fault.
-use Rattle.std.specs.Prelude.{[], List, Option, Some, None, Ok, Err}
+use Rattle.std.specs.Prelude.{◌+◌, ◌^◌, ◌<◌, [], List, length, Option, Some, None, Ok, Err}
 use Rattle.hs_ast.specs.declared.definition.AlterAction.{AlterAction}
 use Rattle.hs_ast.specs.declared.definition.AlterAction.TheVariants as action
 use Rattle.hs_ast.specs.declared.definition.CreateIndex.{CreateIndex}
@@ -14,11 +14,12 @@ use Rattle.hs_drops.specs.Definitions.{constraint_dropped, index_created, index_
 use Rattle.hs_elements.specs.Faults.{Text}
 use Rattle.hs_meaning.specs.Statements.{query_meaning}
 use Rattle.hs_outlines.specs.Named.{written}
+use Rattle.hs_outlines.specs.declared.written.Written.{Written}
 use Rattle.hs_plan.specs.declared.definition.Definition.TheVariants as d
 use Rattle.hs_plan.specs.declared.fault.BindFault.TheVariants.{NoMemory}
 use Rattle.hs_plan.specs.declared.plan.Plan.TheVariants as plan
 use Rattle.hs_plan.specs.declared.plan.SessionStatement.TheVariants as session
-use Rattle.hs_schema.specs.Catalogue.{Things, table_named}
+use Rattle.hs_schema.specs.Catalogue.{Things, owned, table_named}
 use Rattle.hs_schema.specs.declared.table.Table.{Table}
 use Rattle.hs_statements.specs.Statements.{Answer, as_plan, is_serializable}
 use Rattle.hs_tables.specs.Answers.{ByNames}
@@ -75,3 +76,20 @@ bound things (s.ReleaseSavepoint name) = Ok (plan.Session (session.ReleaseSavepo
 bound things s.WriteDelayFalse = Ok (plan.Session session.WriteDelayFalse)
 bound things s.Checkpoint = Ok (plan.Session session.Checkpoint)
 bound things s.Shutdown = Ok (plan.Session session.Shutdown)
+
+-- ---- names of constraints
+
+abbrev pub constraints_added : AlterAction → List Written
+constraints_added (action.AddColumn c) = written (by_column c)
+constraints_added (action.AddConstraint k) = written (by_constraint k)
+constraints_added (action.DropConstraint name) = []
+
+-- the constraints that a statement writes
+abbrev pub constraints_in : Stmt → List Written
+constraints_in (s.CreateTable c) = written c.elements
+constraints_in (s.AlterTable a) = constraints_added a.action
+constraints_in _ = []
+
+-- constraints and indexes are fewer than the numbers of at most 64 digits
+abbrev pub HasFreeNames : Things → Stmt → Type 0
+HasFreeNames things statement = length (owned things) + length (constraints_in statement) < 10 ^ 64

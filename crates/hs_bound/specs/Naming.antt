@@ -1,5 +1,5 @@
 -- The names of a definition's constraints, as a list.
-use Rattle.std.specs.Prelude.{ℕ, zero, suc, ◌+◌, Bool, if◌then◌else◌, List, [], ◌∷◌, ◌++◌, length, Option, Some, None}
+use Rattle.std.specs.Prelude.{ℕ, zero, suc, ◌+◌, ◌*◌, ◌^◌, Bool, if◌then◌else◌, List, [], ◌∷◌, ◌++◌, Option, Some, None}
 use Rattle.std.specs.Option.{option_map}
 use Rattle.hs_ast.specs.declared.word.Identifier.{Identifier}
 use Rattle.hs_elements.specs.Faults.{Text}
@@ -7,16 +7,20 @@ use Rattle.hs_elements.specs.Names.{numbered}
 use Rattle.hs_elements.specs.declared.names.ConstraintKind.{ConstraintKind}
 use Rattle.hs_outlines.specs.Named.{is_taken}
 use Rattle.hs_outlines.specs.declared.written.Written.{Written}
-use Rattle.hs_schema.specs.Catalogue.{Things, owned}
+use Rattle.hs_schema.specs.Catalogue.{Things}
 
 -- among so many numbers from one on, the first whose name is free
 unfoldable pub free_from : (Text → Bool) → Text → ConstraintKind → ℕ → ℕ → Option ℕ
 free_from taken table kind zero n = None
 free_from taken table kind (suc more) n = if taken (numbered table kind n) then free_from taken table kind more (n + 1) else Some n
 
--- the first name that is free: it has at most one number more than there are names
+-- a number of more than 64 digits is written by its last 64, so that these numbers write all the names that there are
+abbrev pub all_numbers : ℕ
+all_numbers = 2 * 10 ^ 64
+
+-- the first name that is free
 abbrev pub first_free : Things → Text → List Text → ConstraintKind → Option Text
-first_free things table given kind = option_map (numbered table kind) (free_from (is_taken things given) table kind (length given + length (owned things) + 1) 1)
+first_free things table given kind = option_map (numbered table kind) (free_from (is_taken things given) table kind all_numbers 1)
 
 -- its own name, or else the first that is free behind those given
 abbrev pub name_by : Option Identifier → Things → Text → List Text → ConstraintKind → Option Text

@@ -1,20 +1,18 @@
 -- SQL's reading is one, and each is bound.
-use Rattle.std.proofs.Common.{◌≡◌, ℕ, Bool, List, Result, Ok, Err, sym, ap, ◌∙◌, subst}
+use Rattle.std.proofs.Common.{◌≡◌, ℕ, Bool, List, Result, Ok, Err, sym, ◌∙◌, subst}
 use Rattle.hs_ast.specs.declared.statement.Stmt.{Stmt}
 use Rattle.hs_bound.specs.Bound.{bound}
-use Rattle.hs_bound.proofs.Alone.{alone}
+use Rattle.hs_bound.proofs.Answered.{statement_answer}
 use Rattle.hs_entries.specs.Entry.{place_of, statement_of}
 use Rattle.hs_histories.specs.Histories.{Commit}
 use Rattle.hs_language.specs.Reading.{Reading}
 use Rattle.hs_plan.specs.declared.definition.Definition.{Definition}
-use Rattle.hs_plan.specs.declared.fault.BindFault.TheVariants.{NoMemory}
-use Rattle.hs_plan.specs.declared.plan.Plan.{Plan}
 use Rattle.hs_plan.specs.declared.plan.Plan.TheVariants as plan
 use Rattle.hs_reached.proofs.Tables.{read, written}
 use Rattle.hs_read.specs.Read.{IsReadAs, Refusal, statement_in}
 use Rattle.hs_read.proofs.Reading.{is_read}
 use Rattle.hs_reading.specs.Reading.{IsReading, reading_of}
-use Rattle.hs_requests.specs.Plans.{IsPlan, in_words}
+use Rattle.hs_requests.specs.Plans.{in_words}
 use Rattle.hs_requests.specs.Words.{bind_words, refusal_words}
 use Rattle.hs_requests.proofs.Told.{answered, requested, unread}
 use Rattle.hs_schema.specs.Catalogue.{Text, Things}
@@ -38,8 +36,7 @@ defines_by things at statement definition (Err fault) is e = let no : Err (bind_
 binds : (r : Reading) → IsReading r → (things : Things) (entry : Text) (definition : Definition) (answer : Result Stmt Refusal) → IsReadAs (statement_of entry) answer
     → r.plan things entry ≡ Ok (plan.Define definition) → (statement : Stmt) × AnswersStatement things statement (Ok (plan.Define definition))
 binds r is things entry definition (Ok statement) has e =
-    let its = is.plan things entry statement has in
-    (statement, defines_by things (place_of entry) statement definition its.0 its.1 (sym its.3 ∙ e))
+    (statement, defines_by things (place_of entry) statement definition (bound things statement) (statement_answer things statement) (sym (is.plan things entry statement has) ∙ e))
 binds r is things entry definition (Err refusal) has e =
     let no : Err (refusal_words (place_of entry) refusal) ≡ Ok (plan.Define definition) = sym (is.unread things entry refusal has) ∙ e in absurd (cc)
 
@@ -51,15 +48,9 @@ is_bound r is = record {
 
 -- ---- readings agree
 
--- where an answer is no want of memory, a plan is that answer
-exactly_by : (things : Things) (at : ℕ) (statement : Stmt) (result : Result Plan Text) → IsPlan things at statement result → ¬ (bound things statement ≡ Err NoMemory) → result ≡ in_words at (bound things statement)
-exactly_by things at statement result is there = is.3 ∙ ap (in_words at) (alone things statement is.0 is.1 (λ e. there (is.2 e)) there)
-
 pub same_request : (r other : Reading) → IsReading r → IsReading other → (entry : Text) → r.request entry ≡ other.request entry
 same_request r other a b entry = a.request entry (statement_in (statement_of entry)) (is_read (statement_of entry)) ∙ sym (b.request entry (statement_in (statement_of entry)) (is_read (statement_of entry)))
 
-pub same_plan : (r other : Reading) → IsReading r → IsReading other → (things : Things) (entry : Text) (statement : Stmt) → IsReadAs (statement_of entry) (Ok statement) → ¬ (bound things statement ≡ Err NoMemory)
+pub same_plan : (r other : Reading) → IsReading r → IsReading other → (things : Things) (entry : Text) (statement : Stmt) → IsReadAs (statement_of entry) (Ok statement)
     → r.plan things entry ≡ other.plan things entry
-same_plan r other a b things entry statement has there =
-    exactly_by things (place_of entry) statement (r.plan things entry) (a.plan things entry statement has) there
-    ∙ sym (exactly_by things (place_of entry) statement (other.plan things entry) (b.plan things entry statement has) there)
+same_plan r other a b things entry statement has = a.plan things entry statement has ∙ sym (b.plan things entry statement has)

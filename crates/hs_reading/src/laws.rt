@@ -1,13 +1,11 @@
 //! Laws of SQL's reading, each on a function that does nothing.
-ghost use Rattle.std.specs.Prelude.{◌≡◌, Bool, List, Err, Ok};
+ghost use Rattle.std.specs.Prelude.{◌≡◌, Bool, List, Ok};
 ghost use Rattle.hs_ast.specs.declared.statement.Stmt.{Stmt};
-ghost use Rattle.hs_bound.specs.Bound.{bound};
 ghost use Rattle.hs_entries.specs.Entry.{statement_of};
 ghost use Rattle.hs_histories.specs.Histories.{Commit};
 ghost use Rattle.hs_histories.specs.Language.{Laws};
 ghost use Rattle.hs_language.specs.Reading.{Reading};
 ghost use Rattle.hs_language.specs.Sql.{sql};
-ghost use Rattle.hs_plan.specs.declared.fault.BindFault.TheVariants as fault;
 ghost use Rattle.hs_read.specs.Read.{IsReadAs};
 ghost use Rattle.hs_reading.specs.Reading.{IsReading, reading_of};
 ghost use Rattle.hs_schema.specs.Catalogue.{Text, Things};
@@ -20,11 +18,10 @@ pub fn sql_has_a_reading()
     ensures { (room : List Commit → Commit → Bool) → IsReading (reading_of room) }
 {}
 
-/// Two readings of SQL are one: each entry asks for the same in both, and means the same over each catalogue, want of
-/// memory aside.
+/// Two readings of SQL are one: each entry asks for the same in both, and means the same over each catalogue.
 pub fn readings_of_sql_agree()
     ensures request { (r other : Reading) → IsReading r → IsReading other → (entry : Text) → r.request entry ≡ other.request entry }
-    ensures plan { (r other : Reading) → IsReading r → IsReading other → (things : Things) (entry : Text) (statement : Stmt) → IsReadAs (statement_of entry) (Ok statement) → ¬ (bound things statement ≡ Err fault.NoMemory) → r.plan things entry ≡ other.plan things entry }
+    ensures plan { (r other : Reading) → IsReading r → IsReading other → (things : Things) (entry : Text) (statement : Stmt) → IsReadAs (statement_of entry) (Ok statement) → r.plan things entry ≡ other.plan things entry }
 {}
 
 /// A reading of SQL is bound: its definitions are bound statements, and it tells the tables that statements read and

@@ -1,5 +1,5 @@
 -- What is told of texts.
-use Rattle.std.proofs.Common.{◌≡◌, ◌≢◌, ℕ, ◌+◌, true, length, List, Result, Ok, Err, refl, sym, ap, ◌∙◌}
+use Rattle.std.proofs.Common.{◌≡◌, ◌≢◌, ℕ, ◌+◌, true, length, List, Result, Ok, Err, sym, ap, ◌∙◌}
 use Rattle.hs_ast.specs.declared.statement.Stmt.{Stmt}
 use Rattle.hs_bound.specs.Bound.{bound}
 use Rattle.hs_bound.proofs.Alone.{alone}
@@ -75,10 +75,10 @@ is_refused : (fault : BindFault) → fault ≢ memory.NoMemory → ¬ (refused_b
 is_refused fault some = λ e. some (let z : fault ≡ memory.NoMemory = cc in z)
 
 -- the only answer but want of memory is that of the reading
-module _ (things : Things) (at : ℕ) (its : Stmt) (entry : Text) (read : IsReadAs (statement_of entry) (Ok its)) (here : at ≡ place_of entry) (there : ¬ (bound things its ≡ Err memory.NoMemory)) where
+module _ (things : Things) (at : ℕ) (its : Stmt) (entry : Text) (read : IsReadAs (statement_of entry) (Ok its)) (here : at ≡ place_of entry) where
   answered_so : (found : Answer) → AnswersStatement things its found → ¬ (found ≡ Err memory.NoMemory) → in_words at found ≡ plan_of things entry
   answered_so found is some =
-      ap (in_words at) (alone things its found is some there) ∙ (ap (λ z. in_words z (bound things its)) here ∙ sym (planned things entry (Ok its) read))
+      ap (in_words at) (alone things its found is some) ∙ (ap (λ z. in_words z (bound things its)) here ∙ sym (planned things entry (Ok its) read))
 
   pub plan_as : (plan : Plan) → AnswersStatement things its (Ok plan) → Ok plan ≡ plan_of things entry
   plan_as plan is = answered_so (Ok plan) is (is_meant plan)
@@ -89,7 +89,7 @@ module _ (things : Things) (at : ℕ) (its : Stmt) (entry : Text) (read : IsRead
 -- ---- as the only plans
 
 pub is_plan : (things : Things) (at : ℕ) (its : Stmt) (plan : Plan) → AnswersStatement things its (Ok plan) → IsPlan things at its (Ok plan)
-is_plan things at its plan is = (Ok plan, is, (λ e. absurd (is_meant plan e)), refl)
+is_plan things at its plan is = ap (in_words at) (alone things its (Ok plan) is (is_meant plan))
 
 pub is_fault : (things : Things) (at : ℕ) (its : Stmt) (fault : BindFault) (words : Text) → AnswersStatement things its (Err fault) → fault ≢ memory.NoMemory → words ≡ bind_words at fault → IsPlan things at its (Err words)
-is_fault things at its fault words is some told_so = (Err fault, is, (λ e. absurd (is_refused fault some e)), ap (λ (w : Text). Err w) told_so)
+is_fault things at its fault words is some told_so = ap (λ (w : Text). Err w) told_so ∙ ap (in_words at) (alone things its (Err fault) is (is_refused fault some))

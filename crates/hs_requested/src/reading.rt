@@ -1,9 +1,7 @@
 // Statements read from texts, and plans over a catalogue.
-ghost use Rattle.std.specs.Prelude.{◌≡◌, ◌+◌, ◌<◌, ◌^◌, true, length, Err, IfOk, Ok};
-ghost use Rattle.hs_bound.specs.Bound.{bound};
+ghost use Rattle.std.specs.Prelude.{◌≡◌, ◌+◌, ◌<◌, ◌^◌, true, length, IfOk, Ok};
 ghost use Rattle.hs_entries.specs.Entry.{is_session, place_of, statement_of};
 ghost use Rattle.hs_lexer.specs.Reading.{tokens_of};
-ghost use Rattle.hs_plan.specs.declared.fault.BindFault.TheVariants as bind_fault;
 ghost use Rattle.hs_read.specs.Read.{IsReadAs, statement_in};
 ghost use Rattle.hs_requested.specs.Asked as spec;
 ghost use Rattle.hs_requests.specs.Plans.{IsPlan, plan_of};
@@ -115,7 +113,7 @@ pub fn plan_statement(
     statement: &Stmt,
 ) -> Result<Result<Plan, Chars>, NoMemory>
     ensures plan { IfOk result (λ answer. IsPlan catalog.now at statement.now answer) }
-    ensures exact { (entry : Text) → IsReadAs (statement_of entry) (Ok statement.now) → at ≡ place_of entry → ¬ (bound catalog.now statement.now ≡ Err bind_fault.NoMemory) → IfOk result (λ answer. answer ≡ plan_of catalog.now entry) }
+    ensures exact { (entry : Text) → IsReadAs (statement_of entry) (Ok statement.now) → at ≡ place_of entry → IfOk result (λ answer. answer ≡ plan_of catalog.now entry) }
 {
     match bind(catalog, statement) {
         Ok(plan) => Ok(Ok(plan)),

@@ -26,7 +26,7 @@ unfolding plan_of
 planned things entry answer is = ap (plan_by things (place_of entry)) (sym (only (statement_of entry) answer is))
 
 pub answered : (things : Things) (entry : Text) (statement : Stmt) → IsReadAs (statement_of entry) (Ok statement) → IsPlan things (place_of entry) statement (plan_of things entry)
-answered things entry statement is = (bound things statement, statement_answer things statement, (λ e. e), planned things entry (Ok statement) is)
+answered things entry statement is = planned things entry (Ok statement) is
 
 pub unread : (things : Things) (entry : Text) (refusal : Refusal) → IsReadAs (statement_of entry) (Err refusal) → plan_of things entry ≡ Err (refusal_words (place_of entry) refusal)
 unread things entry refusal is = planned things entry (Err refusal) is

@@ -3,13 +3,12 @@ use Rattle.std.specs.Prelude.{◌≡◌, ℕ, Bool, true, false, Result, Ok, Err
 use Rattle.hs_ast.specs.declared.statement.Stmt.{Stmt}
 use Rattle.hs_bound.specs.Bound.{bound}
 use Rattle.hs_entries.specs.Entry.{place_of, statement_of}
-use Rattle.hs_plan.specs.declared.fault.BindFault.TheVariants.{NoMemory}
 use Rattle.hs_plan.specs.declared.plan.Plan.{Plan}
 use Rattle.hs_plan.specs.declared.plan.Plan.TheVariants as p
 use Rattle.hs_read.specs.Read.{Refusal, statement_in}
 use Rattle.hs_requests.specs.Words.{bind_words, refusal_words}
 use Rattle.hs_schema.specs.Catalogue.{Text, Things}
-use Rattle.hs_statements.specs.Statements.{Answer, AnswersStatement}
+use Rattle.hs_statements.specs.Statements.{Answer}
 use Rattle.hs_turns.specs.Dialect.{Request}
 use Rattle.hs_turns.specs.Dialect.{Request as request}
 
@@ -18,11 +17,9 @@ abbrev pub in_words : ℕ → Answer → Result Plan Text
 in_words at (Ok plan) = Ok plan
 in_words at (Err fault) = Err (bind_words at fault)
 
--- it is what is answered to the statement; and that is no want of memory, unless it is so for the function too, as
--- where a catalogue has no free name for a constraint
+-- it is what the statement means over the catalogue, in words
 abbrev pub IsPlan : Things → ℕ → Stmt → Result Plan Text → Type 0
-IsPlan things at statement result =
-    (answer : Answer) × AnswersStatement things statement answer × (answer ≡ Err NoMemory → bound things statement ≡ Err NoMemory) × (result ≡ in_words at answer)
+IsPlan things at statement result = result ≡ in_words at (bound things statement)
 
 abbrev pub plan_by : Things → ℕ → Result Stmt Refusal → Result Plan Text
 plan_by things at (Ok statement) = in_words at (bound things statement)

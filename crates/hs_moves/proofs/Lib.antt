@@ -1,0 +1,12 @@
+pub mod Texts
+pub mod Steps
+pub mod Worlds
+pub mod Ended
+pub mod Going
+pub mod Refusals
+pub mod Outcomes
+pub mod Attempted
+pub mod Defining
+pub mod Starting
+pub mod Seating
+pub mod Behind
