@@ -3,3 +3,4 @@ pub mod Held
 pub mod Lists
 pub mod Numbers
 pub mod Queue
+pub mod Whole

@@ -1,7 +1,7 @@
 -- Numbers that ascend.
-use Rattle.std.proofs.Common.{ℕ, ◌<◌, List, [], ◌∷◌, ◌++◌}
+use Rattle.std.proofs.Common.{ℕ, ◌+◌, ◌<◌, arith, List, [], ◌∷◌, ◌++◌}
 use Rattle.hs_histories.specs.Each.{Each}
-use Rattle.hs_queue.specs.Queues.{Ascends}
+use Rattle.hs_queue.specs.Lanes.{Ascends}
 
 abbrev Above : ℕ → List ℕ → Type 0
 Above n ns = Each (λ k. n < k) ns
@@ -22,3 +22,12 @@ above_without n (m ∷ ms) k more all = (all.0, above_without n ms k more all.1)
 pub without : (ns : List ℕ) (k : ℕ) (more : List ℕ) → Ascends (ns ++ k ∷ more) → Ascends (ns ++ more)
 without [] k more all = all.1
 without (n ∷ ns) k more all = (above_without n ns k more all.0, without ns k more all.1)
+
+above_on : (n : ℕ) (ns : List ℕ) (k : ℕ) → Above n (ns ++ k ∷ []) → Above n (ns ++ k ∷ (k + 1) ∷ [])
+above_on n [] k all = let h : n < k = all.0 in (h, (omega (arith, h), tt))
+above_on n (m ∷ ms) k all = (all.0, above_on n ms k all.1)
+
+-- one more behind the greatest
+pub on : (ns : List ℕ) (k : ℕ) → Ascends (ns ++ k ∷ []) → Ascends (ns ++ k ∷ (k + 1) ∷ [])
+on [] k all = let h : k < k + 1 = omega arith in ((h, tt), (tt, tt))
+on (n ∷ ns) k all = (above_on n ns k all.0, on ns k all.1)

@@ -1,15 +1,15 @@
--- The queued entry with the least number whose session doesn't wait.
+-- The queued entry with the least ticket whose session doesn't wait.
 use Rattle.std.specs.Prelude.{◌≡◌, ◌≤◌, ◌<◌, ◌+◌, ℕ, Bool, true, false, if◌then◌else◌, nat_le, List, [], ◌∷◌, Option, None, Some}
 use Rattle.hs_turns.specs.Waiting.{Entry, is_waiting}
-use Rattle.hs_queue.specs.Queues.{backlog}
+use Rattle.hs_queue.specs.Lanes.{Queued, backlog}
 
-abbrev pub first_number : List Entry → Option ℕ
-first_number [] = None
-first_number (entry ∷ entries) = Some entry.number
+abbrev pub first_ticket : List Queued → Option ℕ
+first_ticket [] = None
+first_ticket (q ∷ lane) = Some q.ticket
 
--- the number of the first entry of the session at a place, if it has one and doesn't wait
-abbrev pub ready_number : List Entry → List (List Entry) → ℕ → Option ℕ
-ready_number waiters backlogs place = if is_waiting (place + 1) waiters then None else first_number (backlog backlogs place)
+-- the ticket of the first entry of the session at a place, if it has one and doesn't wait
+abbrev pub ready_ticket : List Entry → List (List Queued) → ℕ → Option ℕ
+ready_ticket waiters lanes place = if is_waiting (place + 1) waiters then None else first_ticket (backlog lanes place)
 
 -- the least of the numbers at the first so many places, behind its place
 abbrev pub IsLeast : (ℕ → Option ℕ) → ℕ → Option (ℕ × ℕ) → Type 0

@@ -1,3 +1,4 @@
 pub mod Entries
-pub mod Queues
+pub mod Lanes
 pub mod Earliest
+pub mod Queues

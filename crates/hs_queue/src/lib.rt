@@ -3,6 +3,7 @@
 
 mod backlogs;
 mod entry;
+mod lanes;
 mod waiters;
 
 pub use backlogs::Backlogs;

@@ -1,0 +1,4 @@
+pub mod Standing
+pub mod Resting
+pub mod Turned
+pub mod Closing
