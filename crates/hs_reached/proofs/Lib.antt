@@ -1,2 +1,3 @@
+pub mod Order
 pub mod Reaching
 pub mod Tables

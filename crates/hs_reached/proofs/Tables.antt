@@ -1,6 +1,8 @@
 -- The tables that a statement reads and writes.
-use Rattle.std.proofs.Common.{◌≡◌, ◌↔◌, ℕ, Bool, true, false, cond, not, ◌||◌, nat_eq, List, [], ◌∷◌, filter, map, refl, ap, sym, ◌∙◌}
+use Rattle.std.proofs.Common.{◌≡◌, ◌↔◌, ℕ, Bool, true, false, cond, not, ◌||◌, nat_eq, List, [], ◌∷◌, filter, map, refl, ap, sym, ◌∙◌, subst}
+use Rattle.std.proofs.lemmas.List.Kept.{IsStrictlyIncreasing-filter}
 use Rattle.std.specs.List.{flat_map, Contains}
+use Rattle.std.specs.List.Sorted.{IsStrictlyIncreasing}
 use Rattle.std.specs.Option.{option_map_or}
 use Rattle.indexmap.specs.IndexSet.{insert_all}
 use Rattle.hs_base.specs.declared.numbers.TableNo.{TableNo}
@@ -14,7 +16,8 @@ use Rattle.hs_closure.specs.declared.way.Way.TheVariants as way
 use Rattle.hs_closure.proofs.Answered.{HasNeeded, HasWritten, answers_read, answers_written, has_needed, has_written}
 use Rattle.hs_closure.proofs.Exact.{exact}
 use Rattle.hs_closure.proofs.Lists.{exactly}
-use Rattle.hs_reached.specs.Reached.{all_tables, deleted_in, needed_in, put_in, tabled, tables_read, tables_written, updated_in, written_in}
+use Rattle.hs_reached.specs.Reached.{all_tables, deleted_in, in_order, needed_in, put_in, tabled, tables_read, tables_written, updated_in, written_in}
+use Rattle.hs_reached.proofs.Order.{ascends, same_numbers}
 use Rattle.hs_reached.proofs.Reaching.{LeadOn, closure}
 
 -- ---- only the tables of a catalogue lead on
@@ -76,12 +79,29 @@ pub written : (things : Things) (plan : Plan) (table : TableNo) → Contains (ta
 unfolding tables_written
 written things plan =
     let set = written_in things plan in
-    answers_written things plan set (map tabled set) (writes things plan) (exactly set set [] (map tabled set) (λ n. refl) (numbered set ∙ sym (all_kept set)))
+    let ordered : List ℕ = in_order set in
+    answers_written things plan set (map tabled ordered) (writes things plan) (exactly set ordered [] (map tabled ordered) (same_numbers set) (numbered ordered ∙ sym (all_kept ordered)))
 
 pub read : (things : Things) (plan : Plan) (table : TableNo) → Contains (tables_read things plan) table ↔ IsRead things plan table
 unfolding tables_read
 read things plan =
     let set = needed_in things plan in
     let others = written_in things plan in
-    let left : List ℕ = filter (λ n. not (is_in others n)) set in
-    answers_read things plan set others (map tabled left) (needs things plan) (writes things plan) (exactly set set others (map tabled left) (λ n. refl) (numbered left))
+    let left : List ℕ = filter (λ n. not (is_in others n)) (in_order set) in
+    answers_read things plan set others (map tabled left) (needs things plan) (writes things plan) (exactly set (in_order set) others (map tabled left) (same_numbers set) (numbered left))
+
+-- ---- in order
+
+listed : (ns : List ℕ) → IsStrictlyIncreasing ns → IsStrictlyIncreasing (numbers (map tabled ns))
+listed ns up = subst IsStrictlyIncreasing (sym (numbered ns)) up
+
+pub written_ascends : (things : Things) (plan : Plan) → IsStrictlyIncreasing (numbers (tables_written things plan))
+unfolding tables_written
+written_ascends things plan = listed (in_order (written_in things plan)) (ascends (written_in things plan))
+
+pub read_ascends : (things : Things) (plan : Plan) → IsStrictlyIncreasing (numbers (tables_read things plan))
+unfolding tables_read
+read_ascends things plan =
+    let test = λ (n : ℕ). not (is_in (written_in things plan) n) in
+    let needed = in_order (needed_in things plan) in
+    listed (filter test needed) (IsStrictlyIncreasing-filter test needed (ascends (needed_in things plan)))

@@ -1,5 +1,5 @@
--- The tables that a statement reads and those that it writes, as lists.
-use Rattle.std.specs.Prelude.{ℕ, zero, suc, ◌+◌, nat_eq, not, if◌then◌else◌, List, [], ◌∷◌, ◌++◌, filter, length, map}
+-- The tables that a statement reads and those that it writes, as ascending lists.
+use Rattle.std.specs.Prelude.{ℕ, zero, suc, ◌+◌, nat_eq, nat_lt, not, if◌then◌else◌, List, [], ◌∷◌, ◌++◌, filter, length, map}
 use Rattle.std.specs.List.{flat_map}
 use Rattle.indexmap.specs.IndexSet.{insert_all}
 use Rattle.hs_base.specs.declared.numbers.TableNo.{TableNo}
@@ -28,6 +28,18 @@ looks next seen (x ∷ all) = (if is_in seen x then 0 else length (next x) + 1) 
 abbrev pub reached : (ℕ → List ℕ) → List ℕ → List ℕ → List ℕ
 reached next all old = seen_after next (length old + looks next [] all + 1) old []
 
+-- ---- in order
+
+-- with one number more in its place among ascending ones, where it isn't there yet
+abbrev pub with_number : ℕ → List ℕ → List ℕ
+with_number n [] = n ∷ []
+with_number n (m ∷ ms) = if nat_lt n m then n ∷ m ∷ ms else if nat_lt m n then m ∷ with_number n ms else m ∷ ms
+
+-- by ascending numbers, each once
+abbrev pub in_order : List ℕ → List ℕ
+in_order [] = []
+in_order (n ∷ ns) = with_number n (in_order ns)
+
 -- ---- tables
 
 abbrev pub all_tables : Things → List ℕ
@@ -55,9 +67,10 @@ needed_in things plan = insert_all nat_eq (insert_all nat_eq [] (numbers (named_
 abbrev pub tabled : ℕ → TableNo
 tabled n = record { 0 = n }
 
+-- by ascending numbers, each once
 unfoldable pub tables_written : Things → Plan → List TableNo
-tables_written things plan = map tabled (written_in things plan)
+tables_written things plan = map tabled (in_order (written_in things plan))
 
--- a table that is read and written counts as written
+-- so too; a table that is read and written counts as written
 unfoldable pub tables_read : Things → Plan → List TableNo
-tables_read things plan = map tabled (filter (λ n. not (is_in (written_in things plan) n)) (needed_in things plan))
+tables_read things plan = map tabled (filter (λ n. not (is_in (written_in things plan) n)) (in_order (needed_in things plan)))

@@ -1,5 +1,5 @@
-//! The tables that a statement reads and those that it writes, as lists over a catalogue. It has laws alone, on
-//! functions that do nothing.
+//! The tables that a statement reads and those that it writes, as lists by ascending numbers over a catalogue. It has
+//! laws alone, on functions that do nothing.
 #![tactic(auto)]
 
 pub mod laws;

@@ -1,0 +1,12 @@
+pub mod Opens
+pub mod Seats
+pub mod Settlement
+pub mod Judging
+pub mod Sanity
+pub mod Single
+pub mod HoldingUp
+pub mod Calling
+pub mod Defining
+pub mod Ends
+pub mod Firsts
+pub mod Controlled
