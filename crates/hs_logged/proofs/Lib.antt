@@ -1,0 +1,4 @@
+pub mod Worlds
+pub mod Over
+pub mod Values
+pub mod Writing

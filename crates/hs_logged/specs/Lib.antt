@@ -1,0 +1,4 @@
+pub mod Writable
+pub mod Entered
+pub mod Logged
+pub mod Over
