@@ -1,0 +1,11 @@
+pub mod Copied
+pub mod Effects
+pub mod First
+pub mod Judged
+pub mod Mixed
+pub mod Partly
+pub mod Same
+pub mod TablesOf
+pub mod Told
+pub mod Long
+pub mod Staying
