@@ -1,94 +1,111 @@
--- That the number of a damage is that of the first damaged text.
-use Rattle.std.proofs.Common.{◌≡◌, inl, inr, ℕ, suc, ◌+◌, Bool, true, false, cond, List, [], ◌∷◌, length, Option, None, Some, Result, Ok, Err, refl, sym, ap, subst, ◌∙◌, arith}
-use Rattle.hs_log.specs.Log.{is_born, has_header, is_broken, texts_of}
-use Rattle.hs_program.specs.Damaged.{HasFirstEpoch, AreRedone, MakesNothing, IsFirstDamage}
+-- That what a log gives is one alone, a damage, an invalid database or a valid one.
+use Rattle.std.proofs.Common.{◌≡◌, ◌⊎◌, ◌<◌, inl, inr, ℕ, ◌+◌, Bool, true, false, List, [], ◌∷◌, ◌++◌, length, Option, None, Some, refl, sym, ap, subst, ◌∙◌, arith, append-nil, length-append}
+use Rattle.std.proofs.lemmas.Bool.{cases_order}
+use Rattle.std.proofs.lemmas.Option.{same_Some}
+use Rattle.hs_log.specs.Log.{is_born, is_broken, texts_of}
+use Rattle.hs_run.proofs.Prefixes.{split_front}
+use Rattle.hs_program.specs.Damaged.{IsDamagedAt, IsFirstDamage, MakesNothing}
 use Rattle.hs_program.specs.Lawful.{IsLawful}
 use Rattle.hs_program.specs.Meaning.{Meaning, Opened, nothing_logged}
-use Rattle.hs_program.specs.Opening.{opened_of, replayed, unless_broken}
-use Rattle.hs_program.proofs.Replayed.{failed, gives, goes_on, header_damaged, same_Err, same_Ok}
+use Rattle.hs_program.specs.Opening.{AreRedone, HasFirstEpoch, IsInvalid, IsMade, IsOpened}
+use Rattle.hs_program.proofs.Replayed.{born_texts, made_one, redone_apart, redone_one}
+
+abbrev nothing : Option (List ℕ)
+nothing = None
 
 module _ (m : Meaning) where
-  -- texts that make something stand before the first that makes nothing, as many as commits were made
-  record Stops (o : Opened) (ts : List (List ℕ)) (n : ℕ) : Type 0 where
-    good : List (List ℕ)
-    at : Opened
-    made : AreRedone m o good at
-    next : MakesNothing m ts good at
-    count : n ≡ o.commits + length good + 1
-
-  all_on : (o : Opened) (t : List ℕ) (ts : List (List ℕ)) (p : Opened) (r : Option Opened) → m.redone o t ≡ r → goes_on m r (o.commits + 1) ts ≡ Ok p
-      → ((next : Opened) → replayed m next ts ≡ Ok p → AreRedone m next ts p) → AreRedone m o (t ∷ ts) p
-  all_on o t ts p (Some next) made is go = (next, made, go next is)
-  all_on o t ts p None made is go = absurd (cc)
-
-  all_redone : (ts : List (List ℕ)) (o p : Opened) → replayed m o ts ≡ Ok p → AreRedone m o ts p
-  all_redone [] o p is = same_Ok o p is
-  all_redone (t ∷ ts) o p is = all_on o t ts p (m.redone o t) refl is (λ next. all_redone ts next p)
+  -- what stands from the first damaged text on
+  behind : (texts : List (List ℕ)) (broken : Bool) (n : ℕ) (f : IsFirstDamage m texts broken n) → (more : List (List ℕ)) × (texts ≡ f.good ++ more)
+  behind texts broken n f = elim f.next [
+    | inl next ↦ (next.text ∷ next.rest, next.is)
+    | inr all ↦ ([], all.0 ∙ sym (append-nil f.good))
+  ]
 
   module _ (law : IsLawful m) where
-    stops_on : (o : Opened) (t : List ℕ) (ts : List (List ℕ)) (n : ℕ) (r : Option Opened) → m.redone o t ≡ r → goes_on m r (o.commits + 1) ts ≡ failed n
-        → ((next : Opened) → replayed m next ts ≡ failed n → Stops next ts n) → Stops o (t ∷ ts) n
-    stops_on o t ts n (Some next) made is go =
-        let s = go next is in
-        record {
-          good = t ∷ s.good;
-          at = s.at;
-          made = (next, made, s.made);
-          next = record { text = s.next.text; rest = s.next.rest; is = ap (λ (l : List (List ℕ)). t ∷ l) s.next.is; none = s.next.none };
-          count = omega (arith, s.count, law.counts o next t made);
-        }
-    stops_on o t ts n None made is go = record {
-      good = [];
-      at = o;
-      made = refl;
-      next = record { text = t; rest = ts; is = refl; none = made };
-      count = omega (arith, same_Err (o.commits + 1) n is);
-    }
+    -- where a text makes nothing, none is made again behind it
+    stops : (front more rest : List (List ℕ)) (text : List ℕ) (o p : Opened) → ((next : Opened) → ¬ (m.Redone o text next)) → front ++ more ≡ text ∷ rest → AreRedone m o front p → length front ≡ 0
+    stops [] more rest text o p none is made = refl
+    stops (t ∷ front) more rest text o p none is made =
+        let same : t ≡ text = cc in absurd (none made.0 (subst (λ x. m.Redone o x made.0) same made.1))
 
-    stops : (ts : List (List ℕ)) (o : Opened) (n : ℕ) → replayed m o ts ≡ failed n → Stops o ts n
-    stops [] o n is = absurd (cc)
-    stops (t ∷ ts) o n is = stops_on o t ts n (m.redone o t) refl is (λ next. stops ts next n)
-
-    -- what is wrong with texts has a number, which isn't 0
-    in_replay : (broken : Bool) (texts : List (List ℕ)) (n : ℕ) (r : Result Opened ℕ) → replayed m (nothing_logged m) texts ≡ r → unless_broken broken texts r ≡ failed n → (k : ℕ) × (n ≡ suc k) × IsFirstDamage m texts broken k
-    in_replay broken texts n (Err k) at is =
-        let s = stops texts (nothing_logged m) k at in
-        (length s.good, omega (arith, s.count, same_Err k n is), record { good = s.good; opened = s.at; count = refl; made = s.made; next = inl s.next })
-    in_replay broken texts n (Ok o) at is = ends broken refl is
+    -- no text in front of a damaged one is damaged
+    never_before : (texts : List (List ℕ)) (broken : Bool) (a b : ℕ) → IsFirstDamage m texts broken a → IsFirstDamage m texts broken b → a < b → ⊥
+    never_before texts broken a b one other less = elim one.next [ inl next ↦ made_again next | inr all ↦ too_long all.0 ]
       where
-        ends : (b : Bool) → broken ≡ b → cond b (failed (length texts + 1)) (Ok o) ≡ failed n → (k : ℕ) × (n ≡ suc k) × IsFirstDamage m texts broken k
-        ends true stands e = (
-          length texts,
-          omega (arith, same_Err (length texts + 1) n e),
-          record { good = texts; opened = o; count = refl; made = all_redone texts (nothing_logged m) o at; next = inr (refl, stands) },
-        )
-        ends false stands e = absurd (cc)
+        more : (l : List (List ℕ)) × (texts ≡ other.good ++ l)
+        more = behind texts broken b other
 
-    first_damage : (b c broken : Bool) (texts : List (List ℕ)) (k : ℕ) → gives m b c broken texts ≡ failed (suc k) → IsFirstDamage m texts broken k
-    first_damage true true broken texts k is =
-        let found = in_replay broken texts (suc k) (replayed m (nothing_logged m) texts) refl is in
-        let same : found.0 ≡ k = omega (arith, found.1) in
-        subst (IsFirstDamage m texts broken) same found.2
-    first_damage true false broken texts k is = absurd (let e : 0 ≡ suc k = same_Err 0 (suc k) is in omega (arith, e))
-    first_damage false c broken texts k is = absurd (cc)
+        made_again : MakesNothing m texts one.good one.opened → ⊥
+        made_again next =
+            let parts = split_front other.good more.0 one.good (next.text ∷ next.rest) (sym more.1 ∙ next.is) (omega (arith, one.count, other.count, less)) in
+            let apart = redone_apart m one.good parts.0 (nothing_logged m) other.opened (subst (λ ts. AreRedone m (nothing_logged m) ts other.opened) parts.1.0 other.made) in
+            let same : apart.0 ≡ one.opened = redone_one m law one.good (nothing_logged m) apart.0 one.opened apart.1 one.made in
+            let none = stops parts.0 more.0 next.rest next.text one.opened other.opened next.none parts.1.1 (subst (λ o. AreRedone m o parts.0 other.opened) same apart.2) in
+            absurd (omega (arith, one.count, other.count, less, none, ap length parts.1.0, length-append one.good parts.0))
 
-    pub damage_first : (log : List ℕ) (before : ℕ) → opened_of m log ≡ Err (suc before) → IsFirstDamage m (texts_of log) (is_broken log) before
-    damage_first log before is = first_damage (is_born log) (has_header 1 log) (is_broken log) (texts_of log) before is
+        too_long : texts ≡ one.good → ⊥
+        too_long is = absurd (omega (arith, one.count, other.count, less, ap length is, ap length more.1, length-append other.good more.0))
 
-    -- 0 is the number of a header
-    header_of : (log : List ℕ) (b c : Bool) → is_born log ≡ b → has_header 1 log ≡ c → gives m b c (is_broken log) (texts_of log) ≡ failed 0 → (is_born log ≡ true) × (HasFirstEpoch log → ⊥)
-    header_of log true true born first is =
-        let found = in_replay (is_broken log) (texts_of log) 0 (replayed m (nothing_logged m) (texts_of log)) refl is in absurd (omega (arith, found.1))
-    header_of log true false born first is =
-        (born, λ has. absurd (let e : false ≡ true = sym first ∙ has in cc))
-    header_of log false c born first is = absurd (cc)
+    first_one : (texts : List (List ℕ)) (broken : Bool) (a b : ℕ) → IsFirstDamage m texts broken a → IsFirstDamage m texts broken b → a ≡ b
+    first_one texts broken a b one other = elim (cases_order a b) [
+      | inl same ↦ same
+      | inr (inl less) ↦ absurd (never_before texts broken a b one other less)
+      | inr (inr less) ↦ absurd (never_before texts broken b a other one less)
+    ]
 
-    pub damage_header : (log : List ℕ) → opened_of m log ≡ Err 0 → (is_born log ≡ true) × (HasFirstEpoch log → ⊥)
-    damage_header log is = header_of log (is_born log) (has_header 1 log) refl refl is
+    -- texts that are all made again have no damage
+    all_whole : (texts : List (List ℕ)) (broken : Bool) (number : ℕ) (opened : Opened) → AreRedone m (nothing_logged m) texts opened → broken ≡ false → IsFirstDamage m texts broken number → ⊥
+    all_whole texts broken number opened made whole first = elim first.next [ inl next ↦ made_again next | inr all ↦ (let e : true ≡ false = sym all.1 ∙ whole in absurd (cc)) ]
+      where
+        made_again : MakesNothing m texts first.good first.opened → ⊥
+        made_again next =
+            let apart = redone_apart m first.good (next.text ∷ next.rest) (nothing_logged m) opened (subst (λ ts. AreRedone m (nothing_logged m) ts opened) next.is made) in
+            let same : apart.0 ≡ first.opened = redone_one m law first.good (nothing_logged m) apart.0 first.opened apart.1 first.made in
+            next.none apart.2.0 (subst (λ o. m.Redone o next.text apart.2.0) same apart.2.1)
 
-  no_header : (log : List ℕ) (c : Bool) → is_born log ≡ true → has_header 1 log ≡ c → (HasFirstEpoch log → ⊥) → opened_of m log ≡ Err 0
-  no_header log true born first none = absurd (none first)
-  no_header log false born first none = header_damaged m log 0 refl born first
+    -- ---- of a log
+    pub damaged_one : (log : List ℕ) (a b : ℕ) → IsDamagedAt m log a → IsDamagedAt m log b → a ≡ b
+    damaged_one log a b one other = by one.damage other.damage
+      where
+        by : ((a ≡ 0) × ¬ (HasFirstEpoch log)) ⊎ (HasFirstEpoch log × IsFirstDamage m (texts_of log) (is_broken log) a)
+            → ((b ≡ 0) × ¬ (HasFirstEpoch log)) ⊎ (HasFirstEpoch log × IsFirstDamage m (texts_of log) (is_broken log) b) → a ≡ b
+        by (inl x) (inl y) = x.0 ∙ sym y.0
+        by (inl x) (inr y) = absurd (x.1 y.0)
+        by (inr x) (inl y) = absurd (y.1 x.0)
+        by (inr x) (inr y) = first_one (texts_of log) (is_broken log) a b x.1 y.1
 
-  pub header_damage : (log : List ℕ) → is_born log ≡ true → (HasFirstEpoch log → ⊥) → opened_of m log ≡ Err 0
-  header_damage log born none = no_header log (has_header 1 log) born refl none
+    pub made_undamaged : (log : List ℕ) (opened : Opened) (number : ℕ) → IsMade m log opened → IsDamagedAt m log number → ⊥
+    made_undamaged log opened number is damaged = elim damaged.damage [
+      | inl header ↦ header.1 (is.header damaged.born)
+      | inr texts ↦
+          all_whole (texts_of log) (is_broken log) number opened (subst (λ ts. AreRedone m (nothing_logged m) ts opened) (born_texts log damaged.born) is.made) (is.whole damaged.born) texts.1
+    ]
+
+    pub opened_undamaged : (log : List ℕ) (opened : Opened) (number : ℕ) → IsOpened m log opened → IsDamagedAt m log number → ⊥
+    opened_undamaged log opened number is = made_undamaged log opened number is.made
+
+    pub invalid_undamaged : (log name : List ℕ) (number : ℕ) → IsInvalid m log name → IsDamagedAt m log number → ⊥
+    invalid_undamaged log name number is = made_undamaged log is.opened number is.made
+
+    pub opened_valid : (log name : List ℕ) (opened : Opened) → IsOpened m log opened → IsInvalid m log name → ⊥
+    opened_valid log name opened is invalid =
+        let same : opened ≡ invalid.opened = made_one m law log opened invalid.opened is.made invalid.made in
+        never name (sym is.valid ∙ ap (λ o. m.violated o) same ∙ invalid.violates)
+      where
+        never : (n : List ℕ) → nothing ≡ Some n → ⊥
+        never n is = absurd (cc)
+
+    pub invalid_one : (log a b : List ℕ) → IsInvalid m log a → IsInvalid m log b → a ≡ b
+    invalid_one log a b one other =
+        let same : one.opened ≡ other.opened = made_one m law log one.opened other.opened one.made other.made in
+        same_Some a b (sym one.violates ∙ ap (λ o. m.violated o) same ∙ other.violates)
+
+  -- ---- which number a damage has
+  pub damaged_group : (log : List ℕ) (before : ℕ) → IsDamagedAt m log (before + 1) → IsFirstDamage m (texts_of log) (is_broken log) (before + 1)
+  damaged_group log before is = elim is.damage [ inl header ↦ absurd (omega (arith, header.0)) | inr texts ↦ texts.1 ]
+
+  pub damaged_header : (log : List ℕ) → IsDamagedAt m log 0 → (is_born log ≡ true) × ¬ (HasFirstEpoch log)
+  damaged_header log is = elim is.damage [ inl header ↦ (is.born, header.1) | inr texts ↦ absurd (omega (arith, texts.1.count)) ]
+
+  pub header_damaged : (log : List ℕ) → is_born log ≡ true → ¬ (HasFirstEpoch log) → IsDamagedAt m log 0
+  header_damaged log born none = record { born = born; damage = inl (refl, none) }

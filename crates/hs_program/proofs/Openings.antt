@@ -1,29 +1,35 @@
 -- What a crash leaves of a log while it is opened.
-use Rattle.std.proofs.Common.{◌≡◌, ℕ, Bool, cond, List, [], inl, inr, sym, ◌∙◌, ap, subst}
+use Rattle.std.proofs.Common.{◌≡◌, ℕ, cond, List, [], inl, inr, sym, ◌∙◌, ap, subst}
 use Rattle.hs_host.specs.declared.file_kind.FileKind.TheVariants.{Log}
 use Rattle.hs_host.specs.Disk.{Pending, Leaves, settled}
 use Rattle.hs_host.specs.Files.{Five}
 use Rattle.hs_host.specs.Moments.{Moment, History, Since, OneFile, IsStill, disk_of, with_disk}
 use Rattle.hs_host.proofs.Changing.{disk_is}
 use Rattle.hs_host.proofs.Passing.{since_weaker, since_join, since_now, still_disks}
-use Rattle.hs_log.specs.Log.{IsSameLog, IsOpening, is_born, has_header, is_broken, texts_of}
+use Rattle.hs_log.specs.Log.{IsSameLog, IsOpening, is_born, texts_of}
 use Rattle.hs_program.specs.Crash.{GivesSame, IsFound, IsQuiet}
-use Rattle.hs_program.specs.Meaning.{Meaning}
-use Rattle.hs_program.specs.Opening.{opened_of, texts_at}
-use Rattle.hs_program.proofs.Replayed.{gives}
+use Rattle.hs_program.specs.Meaning.{Meaning, nothing_logged}
+use Rattle.hs_program.specs.Opening.{AreRedone, IsOpened, texts_at}
 
 module _ (m : Meaning) where
   -- the same bytes give the same, and so does what is read as the log was
   pub same_gives : (old log : List ℕ) → log ≡ old → GivesSame m old log
-  same_gives old log same = (ap (opened_of m) same, ap texts_at same)
+  same_gives old log same = (λ opened is. subst (λ l. IsOpened m l opened) (sym same) is, ap texts_at same)
+
+  same_texts : (old left : List ℕ) → IsSameLog old left → texts_at left ≡ texts_at old
+  same_texts old left same = ap (λ b. cond b (texts_of left) []) same.born ∙ ap (λ ts. cond (is_born old) ts []) same.texts
 
   same_log_gives : (old left : List ℕ) → IsSameLog old left → GivesSame m old left
   same_log_gives old left same = (
-    ap (λ (b : Bool). gives m b (has_header 1 left) (is_broken left) (texts_of left)) same.born
-        ∙ ap (λ (b : Bool). gives m (is_born old) b (is_broken left) (texts_of left)) (same.header 1)
-        ∙ ap (λ (b : Bool). gives m (is_born old) (has_header 1 old) b (texts_of left)) same.broken
-        ∙ ap (λ (ts : List (List ℕ)). gives m (is_born old) (has_header 1 old) (is_broken old) ts) same.texts,
-    ap (λ (b : Bool). cond b (texts_of left) []) same.born ∙ ap (λ (ts : List (List ℕ)). cond (is_born old) ts []) same.texts,
+    λ opened is. record {
+      made = record {
+        header = λ born. same.header 1 ∙ is.made.header (sym same.born ∙ born);
+        whole = λ born. same.broken ∙ is.made.whole (sym same.born ∙ born);
+        made = subst (λ ts. AreRedone m (nothing_logged m) ts opened) (sym (same_texts old left same)) is.made.made;
+      };
+      valid = is.valid;
+    },
+    same_texts old left same,
   )
 
   -- while files are only read nothing is told

@@ -1,149 +1,89 @@
 -- What texts make that are made again one after another, and what a log gives.
-use Rattle.std.proofs.Common.{◌≡◌, ℕ, suc, ◌+◌, Bool, true, false, cond, List, [], ◌∷◌, ◌++◌, length, Option, None, Some, Result, Ok, Err, refl, sym, ap, ◌∙◌, arith}
-use Rattle.hs_log.specs.Log.{IsLogOf, IsWholeLog, is_born, has_header, is_broken, texts_of}
+use Rattle.std.proofs.Common.{◌≡◌, ℕ, ◌+◌, true, false, cond, List, [], ◌∷◌, ◌++◌, length, None, refl, sym, ap, subst, ◌∙◌, arith}
+use Rattle.hs_log.specs.Log.{IsLogOf, IsWholeLog, is_born, is_broken, texts_of}
 use Rattle.hs_log.proofs.Logs.{log_parts}
 use Rattle.hs_program.specs.Crash.{GivesSame}
-use Rattle.hs_program.specs.Lawful.{IsLawful}
+use Rattle.hs_program.specs.Lawful.{IsLawful, IsSound}
 use Rattle.hs_program.specs.Meaning.{Meaning, Opened, nothing_logged}
-use Rattle.hs_program.specs.Opening.{unless_broken, replayed, given, opened_of, texts_at}
-
-abbrev pub failed : ℕ → Result Opened ℕ
-failed n = Err n
-
-abbrev gave : Opened → Result Opened ℕ
-gave opened = Ok opened
-
-pub same_Ok : (o p : Opened) → gave o ≡ Ok p → o ≡ p
-same_Ok o p is = cc
-
-pub same_Err : (m n : ℕ) → failed m ≡ failed n → m ≡ n
-same_Err m n is = cc
-
-pub damaged_never : (o : Opened) (number : ℕ) → gave o ≡ Err number → ⊥
-damaged_never o number is = absurd (cc)
+use Rattle.hs_program.specs.Opening.{AreRedone, HasFirstEpoch, IsMade, IsOpened, texts_at}
 
 pub unborn_texts : (log : List ℕ) → is_born log ≡ false → texts_at log ≡ []
-unborn_texts log unborn = ap (λ (b : Bool). cond b (texts_of log) []) unborn
+unborn_texts log unborn = ap (λ b. cond b (texts_of log) []) unborn
 
 -- the texts of a born log
 pub born_texts : (log : List ℕ) → is_born log ≡ true → texts_at log ≡ texts_of log
-born_texts log born = ap (λ (b : Bool). cond b (texts_of log) []) born
+born_texts log born = ap (λ b. cond b (texts_of log) []) born
+
+-- a log that wasn't born has no header
+pub unborn_never : {A : Type 0} (log : List ℕ) → is_born log ≡ false → is_born log ≡ true → A
+unborn_never log unborn born = absurd (let e : true ≡ false = sym born ∙ unborn in cc)
 
 module _ (m : Meaning) where
-  abbrev pub goes_on : Option Opened → ℕ → List (List ℕ) → Result Opened ℕ
-  goes_on r n ts = elim r [ Some next ↦ replayed m next ts | None ↦ Err n ]
-
   -- texts behind those that made something go on from there
-  through : (r : Option Opened) (n : ℕ) (ts more : List (List ℕ)) (p : Opened) → ((next : Opened) → replayed m next ts ≡ Ok p → replayed m next (ts ++ more) ≡ replayed m p more)
-      → goes_on r n ts ≡ Ok p → goes_on r n (ts ++ more) ≡ replayed m p more
-  through (Some next) n ts more p go is = go next is
-  through None n ts more p go is = absurd (cc)
+  pub redone_behind : (ts more : List (List ℕ)) (o p q : Opened) → AreRedone m o ts p → AreRedone m p more q → AreRedone m o (ts ++ more) q
+  redone_behind [] more o p q first behind = subst (λ x. AreRedone m x more q) first behind
+  redone_behind (t ∷ ts) more o p q first behind = (first.0, first.1, redone_behind ts more first.0 p q first.2 behind)
 
-  pub replayed_on : (ts more : List (List ℕ)) (o p : Opened) → replayed m o ts ≡ Ok p → replayed m o (ts ++ more) ≡ replayed m p more
-  replayed_on [] more o p is = ap (λ (x : Opened). replayed m x more) (same_Ok o p is)
-  replayed_on (t ∷ ts) more o p is = through (m.redone o t) (o.commits + 1) ts more p (λ next. replayed_on ts more next p) is
+  -- and where all are made again, the first ones are, and then the others
+  pub redone_apart : (ts more : List (List ℕ)) (o q : Opened) → AreRedone m o (ts ++ more) q → (p : Opened) × AreRedone m o ts p × AreRedone m p more q
+  redone_apart [] more o q all = (o, refl, all)
+  redone_apart (t ∷ ts) more o q all = let rest = redone_apart ts more all.0 q all.2 in (rest.0, (all.0, all.1, rest.1), rest.2)
 
-  -- a front of texts that make something makes something
-  front_through : (r : Option Opened) (n : ℕ) (front rest : List (List ℕ)) (p : Opened) → ((next : Opened) → replayed m next (front ++ rest) ≡ Ok p → (q : Opened) × (replayed m next front ≡ Ok q))
-      → goes_on r n (front ++ rest) ≡ Ok p → (q : Opened) × (goes_on r n front ≡ Ok q)
-  front_through (Some next) n front rest p go is = go next is
-  front_through None n front rest p go is = absurd (cc)
+  -- one more is made again
+  pub redone_more : (ts : List (List ℕ)) (t : List ℕ) (o p q : Opened) → AreRedone m o ts p → m.Redone p t q → AreRedone m o (ts ++ t ∷ []) q
+  redone_more ts t o p q first one = redone_behind ts (t ∷ []) o p q first (q, one, refl)
 
-  pub front_replayed : (front rest : List (List ℕ)) (o p : Opened) → replayed m o (front ++ rest) ≡ Ok p → (q : Opened) × (replayed m o front ≡ Ok q)
-  front_replayed [] rest o p is = (o, refl)
-  front_replayed (t ∷ front) rest o p is = front_through (m.redone o t) (o.commits + 1) front rest p (λ next. front_replayed front rest next p) is
-
-  -- there are as many commits as texts
   module _ (law : IsLawful m) where
-    one_counted : (r : Option Opened) (n k : ℕ) (ts : List (List ℕ)) (p : Opened) → ((next : Opened) → r ≡ Some next → next.commits ≡ k + 1)
-        → ((next : Opened) → replayed m next ts ≡ Ok p → p.commits ≡ next.commits + length ts) → goes_on r n ts ≡ Ok p → p.commits ≡ k + suc (length ts)
-    one_counted (Some next) n k ts p first go is = omega (arith, go next is, first next refl)
-    one_counted None n k ts p first go is = absurd (cc)
+    -- texts make one thing at most
+    pub redone_one : (ts : List (List ℕ)) (o p q : Opened) → AreRedone m o ts p → AreRedone m o ts q → p ≡ q
+    redone_one [] o p q a b = a ∙ sym b
+    redone_one (t ∷ ts) o p q a b =
+        redone_one ts b.0 p q (subst (λ x. AreRedone m x ts p) (law.one o a.0 b.0 t a.1 b.1) a.2) b.2
 
-    pub counted : (ts : List (List ℕ)) (o p : Opened) → replayed m o ts ≡ Ok p → p.commits ≡ o.commits + length ts
-    counted [] o p is = omega (arith, ap (λ (x : Opened). x.commits) (same_Ok o p is))
-    counted (t ∷ ts) o p is = one_counted (m.redone o t) (o.commits + 1) o.commits ts p (λ next. law.counts o next t) (λ next. counted ts next p) is
+    -- there are as many commits as texts
+    pub counted : (ts : List (List ℕ)) (o p : Opened) → AreRedone m o ts p → p.commits ≡ o.commits + length ts
+    counted [] o p is = let same : p.commits ≡ o.commits = ap (λ x. x.commits) is in omega (arith, same)
+    counted (t ∷ ts) o p is = omega (arith, counted ts is.0 p is.2, law.counts o is.0 t is.1)
 
-    -- all texts are made again, and a broken one stands behind them
-    pub broken_given : (broken : Bool) (texts : List (List ℕ)) (opened : Opened) (number : ℕ) → replayed m (nothing_logged m) texts ≡ Ok opened → broken ≡ true → number ≡ opened.commits + 1 → given m broken texts ≡ Err number
-    broken_given broken texts opened number made breaks number_is =
-        let count : length texts + 1 ≡ number = omega (arith, counted texts (nothing_logged m) opened made, number_is) in
-        ap (λ (r : Result Opened ℕ). unless_broken broken texts r) made
-        ∙ ap (λ (b : Bool). cond b (failed (length texts + 1)) (Ok opened)) breaks
-        ∙ ap failed count
-
-  -- or none does
-  pub all_given : (broken : Bool) (texts : List (List ℕ)) (opened : Opened) → replayed m (nothing_logged m) texts ≡ Ok opened → broken ≡ false → given m broken texts ≡ Ok opened
-  all_given broken texts opened made whole = ap (λ (r : Result Opened ℕ). unless_broken broken texts r) made ∙ ap (λ (b : Bool). cond b (failed (length texts + 1)) (Ok opened)) whole
-
-  -- or one of them makes nothing
-  pub stopped_given : (broken : Bool) (texts : List (List ℕ)) (number : ℕ) → replayed m (nothing_logged m) texts ≡ Err number → given m broken texts ≡ Err number
-  stopped_given broken texts number stops = ap (λ (r : Result Opened ℕ). unless_broken broken texts r) stops
-
-  -- a text more is made again, or isn't
-  pub redone_on : (opened next : Opened) (text : List ℕ) (left rest : List (List ℕ)) → left ≡ text ∷ rest → m.redone opened text ≡ Some next → replayed m opened left ≡ replayed m next rest
-  redone_on opened next text left rest is made = ap (replayed m opened) is ∙ ap (λ (r : Option Opened). goes_on r (opened.commits + 1) rest) made
-
-  pub redone_none : (opened : Opened) (text : List ℕ) (left rest : List (List ℕ)) → left ≡ text ∷ rest → m.redone opened text ≡ None → replayed m opened left ≡ Err (opened.commits + 1)
-  redone_none opened text left rest is none = ap (replayed m opened) is ∙ ap (λ (r : Option Opened). goes_on r (opened.commits + 1) rest) none
-
-  -- and where one more was made again, more is reached
-  pub reached_on : (texts : List (List ℕ)) (opened next : Opened) (text : List ℕ) → replayed m (nothing_logged m) texts ≡ Ok opened → m.redone opened text ≡ Some next → replayed m (nothing_logged m) (texts ++ text ∷ []) ≡ Ok next
-  reached_on texts opened next text made more = replayed_on texts (text ∷ []) (nothing_logged m) opened made ∙ redone_on opened next text (text ∷ []) [] refl more
-
-  -- where no text is left, all were made again
-  pub no_more_left : (opened : Opened) (left texts : List (List ℕ)) → left ≡ [] → replayed m opened left ≡ replayed m (nothing_logged m) texts → replayed m (nothing_logged m) texts ≡ Ok opened
-  no_more_left opened left texts none so_far = sym so_far ∙ ap (replayed m opened) none
-
-  -- ---- what a log gives, by its birth byte, its header and its texts
-  abbrev pub gives : Bool → Bool → Bool → List (List ℕ) → Result Opened ℕ
-  gives born first broken texts = cond born (cond first (given m broken texts) (Err 0)) (Ok (nothing_logged m))
-
-  pub opened_is : (log : List ℕ) → is_born log ≡ true → has_header 1 log ≡ true → opened_of m log ≡ given m (is_broken log) (texts_of log)
-  opened_is log born header = ap (λ (b : Bool). gives b (has_header 1 log) (is_broken log) (texts_of log)) born ∙ ap (λ (b : Bool). gives true b (is_broken log) (texts_of log)) header
-
-  pub header_damaged : (log : List ℕ) (number : ℕ) → number ≡ 0 → is_born log ≡ true → has_header 1 log ≡ false → opened_of m log ≡ Err number
-  header_damaged log number zero_is born header =
-      ap (λ (b : Bool). gives b (has_header 1 log) (is_broken log) (texts_of log)) born ∙ ap (λ (b : Bool). gives true b (is_broken log) (texts_of log)) header ∙ ap failed (sym zero_is)
-
-  pub unborn_gives : (log : List ℕ) → is_born log ≡ false → opened_of m log ≡ Ok (nothing_logged m)
-  unborn_gives log unborn = ap (λ (b : Bool). gives b (has_header 1 log) (is_broken log) (texts_of log)) unborn
-
-  -- what gives a damage is born
-  born_by : (log : List ℕ) (b : Bool) (number : ℕ) → is_born log ≡ b → opened_of m log ≡ Err number → is_born log ≡ true
-  born_by log true number born is = born
-  born_by log false number born is = absurd (let e : gave (nothing_logged m) ≡ Err number = sym (unborn_gives log born) ∙ is in cc)
-
-  pub damaged_born : (log : List ℕ) (number : ℕ) → opened_of m log ≡ Err number → is_born log ≡ true
-  damaged_born log number is = born_by log (is_born log) number refl is
-
-  -- the texts of a log give what it gives
-  if_unbroken : (broken : Bool) (texts : List (List ℕ)) (r : Result Opened ℕ) (p : Opened) → unless_broken broken texts r ≡ Ok p → r ≡ Ok p
-  if_unbroken broken texts (Err n) p is = absurd (cc)
-  if_unbroken broken texts (Ok o) p is = whole broken is
-    where
-      whole : (b : Bool) → cond b (failed (length texts + 1)) (Ok o) ≡ Ok p → gave o ≡ Ok p
-      whole true e = absurd (cc)
-      whole false e = e
-
-  old_log : (b c broken : Bool) (texts : List (List ℕ)) (p : Opened) → gives b c broken texts ≡ Ok p → replayed m (nothing_logged m) (cond b texts []) ≡ Ok p
-  old_log true true broken texts p is = if_unbroken broken texts _ p is
-  old_log true false broken texts p is = absurd (cc)
-  old_log false c broken texts p is = is
-
-  pub old_gives : (old : List ℕ) (p : Opened) → opened_of m old ≡ Ok p → replayed m (nothing_logged m) (texts_at old) ≡ Ok p
-  old_gives old p is = old_log (is_born old) (has_header 1 old) (is_broken old) (texts_of old) p is
+  -- ---- what a log gives
+  pub made_of : (log : List ℕ) (opened : Opened) → is_born log ≡ true → HasFirstEpoch log → is_broken log ≡ false → AreRedone m (nothing_logged m) (texts_of log) opened → IsMade m log opened
+  made_of log opened born header whole made = record {
+    header = λ b. header;
+    whole = λ b. whole;
+    made = subst (λ ts. AreRedone m (nothing_logged m) ts opened) (sym (born_texts log born)) made;
+  }
 
   -- a log of the program gives what its texts give
-  pub log_gives : (log : List ℕ) (texts : List (List ℕ)) (opened : Opened) → IsLogOf 1 texts log → replayed m (nothing_logged m) texts ≡ Ok opened → opened_of m log ≡ Ok opened
-  log_gives log texts opened is made =
+  pub log_gives : (log : List ℕ) (texts : List (List ℕ)) (opened : Opened) → IsLogOf 1 texts log → AreRedone m (nothing_logged m) texts opened → m.violated opened ≡ None → IsOpened m log opened
+  log_gives log texts opened is made valid =
       let parts = log_parts 1 texts log is in
-      opened_is log parts.0 parts.1 ∙ all_given (is_broken log) (texts_of log) opened (ap (replayed m (nothing_logged m)) parts.2 ∙ made) parts.3
+      record { made = made_of log opened parts.0 parts.1 parts.3 (subst (λ ts. AreRedone m (nothing_logged m) ts opened) (sym parts.2) made); valid = valid }
 
-  -- a new log gives no more than an unborn one
-  pub new_same : (old new : List ℕ) → is_born old ≡ false → IsWholeLog 1 [] new → GivesSame m old new
-  new_same old new unborn whole =
-      let parts = log_parts 1 [] new whole.log in (
-        log_gives new [] (nothing_logged m) whole.log refl ∙ sym (unborn_gives old unborn),
-        born_texts new parts.0 ∙ parts.2 ∙ sym (unborn_texts old unborn),
-      )
+  -- what a log gives is what a run may begin with
+  pub opened_sound : (log : List ℕ) (opened : Opened) → IsOpened m log opened → IsSound m opened
+  opened_sound log opened is = record { reached = (texts_at log, is.made.made); valid = is.valid }
+
+  module _ (law : IsLawful m) where
+    pub made_one : (log : List ℕ) (a b : Opened) → IsMade m log a → IsMade m log b → a ≡ b
+    made_one log a b one other = redone_one law (texts_at log) (nothing_logged m) a b one.made other.made
+
+    pub opened_one : (log : List ℕ) (a b : Opened) → IsOpened m log a → IsOpened m log b → a ≡ b
+    opened_one log a b one other = made_one log a b one.made other.made
+
+    pub unborn_gives : (log : List ℕ) → is_born log ≡ false → IsOpened m log (nothing_logged m)
+    unborn_gives log unborn = record {
+      made = record {
+        header = λ born. unborn_never log unborn born;
+        whole = λ born. unborn_never log unborn born;
+        made = subst (λ ts. AreRedone m (nothing_logged m) ts (nothing_logged m)) (sym (unborn_texts log unborn)) refl;
+      };
+      valid = law.starts;
+    }
+
+    -- a new log gives no more than an unborn one
+    pub new_same : (old new : List ℕ) → is_born old ≡ false → IsWholeLog 1 [] new → GivesSame m old new
+    new_same old new unborn whole =
+        let parts = log_parts 1 [] new whole.log in (
+          λ opened is. subst (IsOpened m new) (opened_one old (nothing_logged m) opened (unborn_gives old unborn) is) (log_gives new [] (nothing_logged m) whole.log refl law.starts),
+          born_texts new parts.0 ∙ parts.2 ∙ sym (unborn_texts old unborn),
+        )

@@ -1,5 +1,5 @@
 -- That a log with a front of a run's texts has the run's first commits.
-use Rattle.std.proofs.Common.{◌≡◌, ◌⊎◌, ℕ, true, false, List, [], ◌++◌, length, take, Ok, inl, inr, refl, sym, ap, subst, ◌∙◌, arith, append-nil, length-append}
+use Rattle.std.proofs.Common.{◌≡◌, ◌⊎◌, ℕ, true, false, List, [], ◌++◌, length, take, None, inl, inr, refl, sym, ap, subst, ◌∙◌, arith, append-nil, length-append}
 use Rattle.std.proofs.Math.Seq.{take-append_seam}
 use Rattle.hs_entries.specs.Items.{items}
 use Rattle.hs_host.specs.declared.file_kind.FileKind.TheVariants.{Log}
@@ -20,9 +20,9 @@ use Rattle.hs_program.specs.Ahead.{ahead, ended_with, texts_from}
 use Rattle.hs_program.specs.Crash.{GivesSame, IsFound, IsKept, IsQuiet, IsSafe, Survives}
 use Rattle.hs_program.specs.Lawful.{IsLawful}
 use Rattle.hs_program.specs.Meaning.{Meaning, Opened, nothing_logged}
-use Rattle.hs_program.specs.Opening.{opened_of, replayed, size_at, texts_at}
+use Rattle.hs_program.specs.Opening.{AreRedone, IsOpened, size_at, texts_at}
 use Rattle.hs_program.proofs.Openings.{same_gives}
-use Rattle.hs_program.proofs.Replayed.{born_texts, counted, front_replayed, log_gives, new_same, old_gives, replayed_on, unborn_gives}
+use Rattle.hs_program.proofs.Replayed.{born_texts, counted, log_gives, new_same, opened_sound, redone_apart, redone_behind, unborn_gives}
 
 -- how many bytes stand in a log that is kept, with the texts of an old one
 pub size_is : (h : History) (files : Five (List ℕ)) (log : Kept) (old : List ℕ) → IsLog h files log → texts_in files ≡ texts_at old → size_in log ≡ size_at old
@@ -46,23 +46,23 @@ held_opened files h log is first before rest out left leaves = record {
 
 module _ (m : Meaning) where
   -- a log that gives what the old one gives, while nothing is told
-  pub same_survives : (old : List ℕ) (opened : Opened) (input before out log : List ℕ) → opened_of m old ≡ Ok opened → out ≡ before → GivesSame m old log → Survives m old opened input before out log
+  pub same_survives : (old : List ℕ) (opened : Opened) (input before out log : List ℕ) → IsOpened m old opened → out ≡ before → GivesSame m old log → Survives m old opened input before out log
   same_survives old opened input before out log is told same = record {
     by = record { count = 0; enough = omega arith; within = omega arith; is = ap (λ (l : List (List ℕ)). record { epoch = 1; logged = l }) (same.1 ∙ sym (append-nil (texts_at old))) };
     state = opened;
     made = refl;
-    reopens = same.0 ∙ is;
+    reopens = same.0 opened is;
     told = record { written = []; is = told ∙ sym (append-nil before); told = tells_nothing _ };
     begun = λ none. refl;
   }
 
   -- before anything is done all is safe
-  pub start_safe : (files : Five (List ℕ)) (opened : Opened) (input before : List ℕ) (at : Moment) → opened_of m files.log ≡ Ok opened → IsQuiet files at → at.out ≡ before → IsSafe m files.log opened input before at
+  pub start_safe : (files : Five (List ℕ)) (opened : Opened) (input before : List ℕ) (at : Moment) → IsOpened m files.log opened → IsQuiet files at → at.out ≡ before → IsSafe m files.log opened input before at
   start_safe files opened input before at is quiet out log leaves =
       same_survives files.log opened input before at.out log is out (same_gives m files.log log (subst (λ (p : Pending). Leaves p log) quiet leaves))
 
   -- and while the log is opened, or it is being born
-  pub found_kept : (files : Five (List ℕ)) (opened : Opened) (input before : List ℕ) (start at : Moment) → opened_of m files.log ≡ Ok opened → start.out ≡ before → IsFound m files start at → IsKept m files opened input before start at
+  pub found_kept : (files : Five (List ℕ)) (opened : Opened) (input before : List ℕ) (start at : Moment) → IsOpened m files.log opened → start.out ≡ before → IsFound m files start at → IsKept m files opened input before start at
   found_kept files opened input before start at is out found = elim found.left [
     | inl birth ↦ inl birth
     | inr left ↦ inr (λ log leaves. same_survives files.log opened input before at.out log is (found.out ∙ out) (left log leaves))
@@ -78,7 +78,7 @@ module _ (m : Meaning) where
   safe_now {old} {opened} {input} {before} first each = elim (since_now each) [ inl is ↦ subst (IsSafe m old opened input before) (sym is) first | inr safe ↦ safe ]
 
   -- over a born log the present moment is safe in any case
-  pub born_safe : (files : Five (List ℕ)) (opened : Opened) (input before : List ℕ) (start now : History) → opened_of m files.log ≡ Ok opened → is_born files.log ≡ true → IsQuiet files start.now → start.now.out ≡ before
+  pub born_safe : (files : Five (List ℕ)) (opened : Opened) (input before : List ℕ) (start now : History) → IsOpened m files.log opened → is_born files.log ≡ true → IsQuiet files start.now → start.now.out ≡ before
       → Since (IsKept m files opened input before start.now) start now → IsSafe m files.log opened input before now.now
   born_safe files opened input before start now is born quiet out each = elim (since_now each) [
     | inl same ↦ subst (IsSafe m files.log opened input before) (sym same) (start_safe files opened input before start.now is quiet out)
@@ -89,48 +89,59 @@ module _ (m : Meaning) where
   pub left_now : (old : List ℕ) (opened : Opened) (input before : List ℕ) (at : Moment) (written log : List ℕ) → IsSafe m old opened input before at → at.out ≡ written → Leaves (disk_of at Log) log → Survives m old opened input before written log
   left_now old opened input before at written log safe out leaves = subst (λ (o : List ℕ). Survives m old opened input before o log) out (safe log leaves)
 
-  -- where the log could not be opened, it isn't born or a new one
-  pub unborn_or_new : (old input before out log : List ℕ) → is_born old ≡ false → out ≡ before → IsUnbornOrNew log → (is_born log ≡ false) ⊎ Survives m old (nothing_logged m) input before out log
-  unborn_or_new old input before out log unborn told (inl still) = inl still
-  unborn_or_new old input before out log unborn told (inr made) = inr (same_survives old (nothing_logged m) input before out log (unborn_gives m old unborn) told (new_same m old log unborn made))
-
   module _ (law : IsLawful m) where
+    -- where the log could not be opened, it isn't born or a new one
+    pub unborn_or_new : (old input before out log : List ℕ) → is_born old ≡ false → out ≡ before → IsUnbornOrNew log → (is_born log ≡ false) ⊎ Survives m old (nothing_logged m) input before out log
+    unborn_or_new old input before out log unborn told (inl still) = inl still
+    unborn_or_new old input before out log unborn told (inr made) =
+        inr (same_survives old (nothing_logged m) input before out log (unborn_gives m law old unborn) told (new_same m law old log unborn made))
+
     -- what a run makes can be made again
-    all_made : (old : List ℕ) (opened : Opened) (input : List ℕ) → opened_of m old ≡ Ok opened → replayed m opened (texts_from (ahead m old opened) input) ≡ Ok (ended_with m old opened input)
-    all_made old opened input is = law.remade opened (size_at old) (texts_at old, old_gives m old opened is) (items 1 input) (items_told 1 input)
+    all_made : (old : List ℕ) (opened : Opened) (input : List ℕ) → IsOpened m old opened → AreRedone m opened (texts_from (ahead m old opened) input) (ended_with m old opened input)
+    all_made old opened input is = law.remade opened (size_at old) (opened_sound m old opened is) (items 1 input) (items_told 1 input)
+
+    -- and so can its first ones, and what they make violates nothing
+    front_valid : (old : List ℕ) (opened : Opened) (input : List ℕ) → IsOpened m old opened → (front rest : List (List ℕ)) (next : Opened) → texts_from (ahead m old opened) input ≡ front ++ rest → AreRedone m opened front next
+        → m.violated next ≡ None
+    front_valid old opened input is front rest next all made = law.valid opened (size_at old) (opened_sound m old opened is) (items 1 input) (items_told 1 input) front rest next all made
 
     -- and a log of that gives what there is when it has ended
-    pub reopened : (old new : List ℕ) (opened : Opened) (input : List ℕ) → opened_of m old ≡ Ok opened → IsWholeLog 1 (texts_at old ++ texts_from (ahead m old opened) input) new → opened_of m new ≡ Ok (ended_with m old opened input)
+    pub reopened : (old new : List ℕ) (opened : Opened) (input : List ℕ) → IsOpened m old opened → IsWholeLog 1 (texts_at old ++ texts_from (ahead m old opened) input) new → IsOpened m new (ended_with m old opened input)
     reopened old new opened input is whole =
-        log_gives m new (texts_at old ++ texts_from (ahead m old opened) input) (ended_with m old opened input) whole.log
-        (replayed_on m (texts_at old) (texts_from (ahead m old opened) input) (nothing_logged m) opened (old_gives m old opened is) ∙ all_made old opened input is)
+        let all = texts_from (ahead m old opened) input in
+        let end = ended_with m old opened input in
+        let made = all_made old opened input is in
+        log_gives m new (texts_at old ++ all) end whole.log (redone_behind m (texts_at old) all (nothing_logged m) opened end is.made.made made)
+        (front_valid old opened input is all [] end (sym (append-nil all)) made)
 
     -- such a log survives: it has the first so many commits of the run
-    survives : (old : List ℕ) (opened : Opened) (input before out log : List ℕ) → opened_of m old ≡ Ok opened
+    survives : (old : List ℕ) (opened : Opened) (input before out log : List ℕ) → IsOpened m old opened
         → Holds (length (texts_at old)) (texts_at old ++ texts_from (ahead m old opened) input) before out log → Survives m old opened input before out log
     survives old opened input before out log is held =
         let all = texts_from (ahead m old opened) input in
+        let end = ended_with m old opened input in
         let parts = log_parts 1 held.texts log held.is in
         let split = split_front held.texts held.rest (texts_at old) all held.prefix held.enough in
         let front = split.0 in
-        let taken : take (length front) all ≡ front = ap (λ (ts : List (List ℕ)). take (length front) ts) (sym split.1.1) ∙ take-append_seam front held.rest in
-        let made = front_replayed m front held.rest opened (ended_with m old opened input) (ap (replayed m opened) split.1.1 ∙ all_made old opened input is) in
-        let replays : replayed m (nothing_logged m) held.texts ≡ Ok made.0 =
-        ap (replayed m (nothing_logged m)) split.1.0 ∙ replayed_on m (texts_at old) front (nothing_logged m) opened (old_gives m old opened is) ∙ made.1 in
+        let taken : take (length front) all ≡ front = ap (λ ts. take (length front) ts) (sym split.1.1) ∙ take-append_seam front held.rest in
+        let apart = redone_apart m front held.rest opened end (subst (λ ts. AreRedone m opened ts end) (sym split.1.1) (all_made old opened input is)) in
+        let state = apart.0 in
+        let behind : AreRedone m (nothing_logged m) held.texts state =
+        subst (λ ts. AreRedone m (nothing_logged m) ts state) (sym split.1.0) (redone_behind m (texts_at old) front (nothing_logged m) opened state is.made.made apart.1) in
         record {
           by = record {
             count = length front;
             enough = omega arith;
             within = omega (arith, ap length split.1.1, length-append front held.rest);
-            is = ap (λ (l : List (List ℕ)). record { epoch = 1; logged = l }) (born_texts log parts.0 ∙ parts.2 ∙ split.1.0 ∙ ap (λ (ts : List (List ℕ)). texts_at old ++ ts) (sym taken));
+            is = ap (λ (l : List (List ℕ)). record { epoch = 1; logged = l }) (born_texts log parts.0 ∙ parts.2 ∙ split.1.0 ∙ ap (λ ts. texts_at old ++ ts) (sym taken));
           };
-          state = made.0;
-          made = ap (replayed m opened) taken ∙ made.1;
-          reopens = log_gives m log held.texts made.0 held.is replays;
-          told = subst (AcknowledgesBehind before out) (let n : length held.texts ≡ made.0.commits = omega (arith, counted m law held.texts (nothing_logged m) made.0 replays) in n) held.told;
+          state = state;
+          made = subst (λ ts. AreRedone m opened ts state) (sym taken) apart.1;
+          reopens = log_gives m log held.texts state held.is behind (front_valid old opened input is front held.rest state (sym split.1.1) apart.1);
+          told = subst (AcknowledgesBehind before out) (let n : length held.texts ≡ state.commits = omega (arith, counted m law held.texts (nothing_logged m) state behind) in n) held.told;
           begun = λ none. omega (arith, held.begun none, ap length split.1.0, length-append (texts_at old) front);
         }
 
-    pub safe : (old : List ℕ) (opened : Opened) (input before : List ℕ) (at : Moment) → opened_of m old ≡ Ok opened
+    pub safe : (old : List ℕ) (opened : Opened) (input before : List ℕ) (at : Moment) → IsOpened m old opened
         → IsHeld (length (texts_at old)) (texts_at old ++ texts_from (ahead m old opened) input) before at → IsSafe m old opened input before at
     safe old opened input before at is held log left = survives old opened input before at.out log is (held log left)

@@ -1,5 +1,5 @@
 -- What stops a part of a run stops the whole, and which status it has.
-use Rattle.std.proofs.Common.{◌≡◌, ◌⊎◌, ℕ, ◌<◌, ◌≤◌, ◌^◌, Bool, true, false, length, Result, Ok, Err, inl, inr, refl, sym, subst, ◌∙◌, arith}
+use Rattle.std.proofs.Common.{◌≡◌, ◌⊎◌, ℕ, ◌<◌, ◌≤◌, ◌^◌, Bool, true, false, List, length, Result, Ok, Err, inl, inr, refl, sym, subst, ◌∙◌, arith}
 use Rattle.std.specs.Prelude.{IfOk, IsErrOf, MatchResult}
 use Rattle.std.specs.Result.{IsErrAnd}
 use Rattle.hs_host.specs.declared.source.Source as source
@@ -14,13 +14,14 @@ use Rattle.hs_run.specs.Stop.{NoFaults, RunStops}
 use Rattle.hs_run.specs.declared.stop.Stop.{Stop}
 use Rattle.hs_run.specs.declared.stop.Stop.TheVariants as stop
 use Rattle.hs_run.proofs.Stops.{disk_calm, no_faults_on}
-use Rattle.hs_program.specs.declared.damage.Damage.TheVariants.{Foreign, Log}
+use Rattle.hs_program.specs.declared.damage.Damage.{Damage}
+use Rattle.hs_program.specs.declared.damage.Damage.TheVariants.{Foreign, Log, Invalid}
 use Rattle.hs_program.specs.declared.fault.OpenFault.{OpenFault}
 use Rattle.hs_program.specs.declared.fault.OpenFault.TheVariants as fault
 use Rattle.hs_program.specs.declared.status.Status.{Status}
 use Rattle.hs_program.specs.declared.status.Status.TheVariants.{Done, Usage, InputFault, OutputFault, DiskFault, NoMemory, Damaged, InputTooLong}
 use Rattle.hs_program.specs.Mounting.{MountStops}
-use Rattle.hs_program.specs.Stop.{OpenStops, Ends, FindsForeign, IsSilent, fault_of, is_damaged, stopped, unopened}
+use Rattle.hs_program.specs.Stop.{OpenStops, Ends, FindsForeign, IsSilent, TellsDamage, fault_of, is_damaged, stopped, unopened}
 
 -- an error that is handed on
 pub ends_by : {T : Type 0} (A : Type 0) (P : OpenFault → Type 0) (r : Result T OpenFault) (why : OpenFault) → IsErrAnd r (λ e. e ≡ why) → P why → MatchResult r (λ _. A) P
@@ -40,20 +41,27 @@ broken_by log.Disk number is = absurd (cc)
 broken_by (log.Broken n) number is = cc
 broken_by log.NoMemory number is = absurd (cc)
 
+-- a fault of the log is never a violated constraint
+valid_by : (why : LogFault) (name : List ℕ) → fault_of why ≡ fault.Invalid name → ⊥
+valid_by log.Disk name is = absurd (cc)
+valid_by (log.Broken n) name is = absurd (cc)
+valid_by log.NoMemory name is = absurd (cc)
+
+pub invalid_never : {T A : Type 0} (result : Result T OpenFault) (why : LogFault) (name : List ℕ) → IsErrAnd result (λ e. e ≡ fault_of why) → IsErrOf result (fault.Invalid name) → A
+invalid_never (Ok x) why name made is = absurd (cc)
+invalid_never (Err e) why name made is = let same : e ≡ fault.Invalid name = cc in absurd (valid_by why name (sym made ∙ same))
+
 -- a log is damaged where it is broken
 pub damaged_from : {T : Type 0} (result : Result T OpenFault) (why : LogFault) (number : ℕ) → IsErrAnd result (λ e. e ≡ fault_of why) → IsErrOf result (fault.Damaged number) → why ≡ log.Broken number
 damaged_from (Ok x) why number made is = absurd (cc)
 damaged_from (Err e) why number made is = let same : e ≡ fault.Damaged number = cc in broken_by why number (sym made ∙ same)
-
--- a log that gives something is not damaged
-no_damage : {R : Type 0} (opened : R) (number : ℕ) → (let r : Result R ℕ = Ok opened in r) ≡ Err number → ⊥
-no_damage opened number is = absurd (cc)
 
 module _ {H : Type 0} (s : source.Ghosts H) (g : host.Ghosts H) where
   -- where no device failed before, what stops a part stops all that was done
   pub open_open : (why : OpenFault) (a b c : H) → NoFaults s g a b → OpenStops s g b c why → OpenStops s g a c why
   open_open fault.Disk a b c calm rose = subst (λ (n : ℕ). Rose n (g.disk_faults c)) calm.disk rose
   open_open (fault.Damaged number) a b c calm same = no_faults_on calm same
+  open_open (fault.Invalid name) a b c calm same = no_faults_on calm same
   open_open fault.NoMemory a b c calm same = no_faults_on calm same
 
   -- a fault of the log, where nothing but its file was used
@@ -71,6 +79,7 @@ module _ {H : Type 0} (s : source.Ghosts H) (g : host.Ghosts H) where
   pub unopened_ends : (why : OpenFault) (status : Status) (a b : H) → status ≡ unopened why → OpenStops s g a b why → IsSilent s g a b → Ends s g a b status
   unopened_ends fault.Disk status a b is rose silent = subst (Ends s g a b) (sym is) rose
   unopened_ends (fault.Damaged number) status a b is calm silent = subst (Ends s g a b) (sym is) (calm, silent)
+  unopened_ends (fault.Invalid name) status a b is calm silent = subst (Ends s g a b) (sym is) (calm, silent)
   unopened_ends fault.NoMemory status a b is calm silent = subst (Ends s g a b) (sym is) calm
 
   -- and one that took turns, where no device failed before
@@ -94,6 +103,10 @@ module _ {H : Type 0} (s : source.Ghosts H) (g : host.Ghosts H) where
     no_faults_on calm ends.0,
     record { written = ends.1.written ∙ silent.written; unread = ends.1.unread ∙ silent.unread },
   )
+  mounted_ends (Damaged (Invalid name)) a b c calm silent other ends = (
+    no_faults_on calm ends.0,
+    record { written = ends.1.written ∙ silent.written; unread = ends.1.unread ∙ silent.unread },
+  )
   mounted_ends InputTooLong a b c calm silent other same = no_faults_on calm same
 
   -- what is told as no fault is told where no device failed
@@ -106,12 +119,14 @@ module _ {H : Type 0} (s : source.Ghosts H) (g : host.Ghosts H) where
   calm_by NoMemory a b ends input output disk = ends
   calm_by (Damaged Foreign) a b ends input output disk = ends.calm
   calm_by (Damaged (Log number)) a b ends input output disk = ends.0
+  calm_by (Damaged (Invalid name)) a b ends input output disk = ends.0
   calm_by InputTooLong a b ends input output disk = ends
 
   -- a run that finds files at fault is silent
   pub silent_by : (status : Status) (a b : H) → Ends s g a b status → is_damaged status ≡ true → IsSilent s g a b
   silent_by (Damaged Foreign) a b ends damaged = ends.silent
   silent_by (Damaged (Log number)) a b ends damaged = ends.1
+  silent_by (Damaged (Invalid name)) a b ends damaged = ends.1
   silent_by Done a b ends damaged = absurd (cc)
   silent_by Usage a b ends damaged = absurd (cc)
   silent_by InputFault a b ends damaged = absurd (cc)
@@ -128,40 +143,41 @@ module _ {H : Type 0} (s : source.Ghosts H) (g : host.Ghosts H) where
   foreign_kept status a b ends is = let finds : FindsForeign s g a b = subst (Ends s g a b) is ends in finds.kept
 
   -- Where no device fails, a run over files of its own ends as its log and its input say.
-  module _ {R : Type 0} {right : Result R ℕ} where
-    pub complete_as : (status : Status) (a b : H) → Ends s g a b status → s.tells → (IsForeign (g.standing a) → ⊥) → (Rose (s.input_faults a) (s.input_faults b) → ⊥) → (Rose (g.output_faults a) (g.output_faults b) → ⊥)
-        → (Rose (g.disk_faults a) (g.disk_faults b) → ⊥) → ((number : ℕ) → status ≡ Damaged (Log number) → right ≡ Err number) → (status ≡ InputTooLong → 2 ^ 30 < length (s.unread a))
-        → (opened : R) → right ≡ Ok opened → length (s.unread a) ≤ 2 ^ 30 → (status ≡ Done) ⊎ (status ≡ NoMemory)
-    complete_as Done a b ends tells own input output disk damaged long opened is short = inl refl
-    complete_as Usage a b ends tells own input output disk damaged long opened is short = absurd ends
-    complete_as InputFault a b ends tells own input output disk damaged long opened is short = absurd (input ends)
-    complete_as OutputFault a b ends tells own input output disk damaged long opened is short = absurd (output ends)
-    complete_as DiskFault a b ends tells own input output disk damaged long opened is short = absurd (disk ends)
-    complete_as NoMemory a b ends tells own input output disk damaged long opened is short = inr refl
-    complete_as (Damaged Foreign) a b ends tells own input output disk damaged long opened is short = absurd (own (ends.foreign tells))
-    complete_as (Damaged (Log number)) a b ends tells own input output disk damaged long opened is short = absurd (no_damage opened number (sym is ∙ damaged number refl))
-    complete_as InputTooLong a b ends tells own input output disk damaged long opened is short = absurd (omega (arith, long refl, short))
+  pub complete_as : (status : Status) (a b : H) → Ends s g a b status → s.tells → (IsForeign (g.standing a) → ⊥) → (Rose (s.input_faults a) (s.input_faults b) → ⊥) → (Rose (g.output_faults a) (g.output_faults b) → ⊥)
+      → (Rose (g.disk_faults a) (g.disk_faults b) → ⊥) → ((number : ℕ) → ¬ (status ≡ Damaged (Log number))) → ((name : List ℕ) → ¬ (status ≡ Damaged (Invalid name))) → (status ≡ InputTooLong → 2 ^ 30 < length (s.unread a))
+      → length (s.unread a) ≤ 2 ^ 30 → (status ≡ Done) ⊎ (status ≡ NoMemory)
+  complete_as Done a b ends tells own input output disk damaged invalid long short = inl refl
+  complete_as Usage a b ends tells own input output disk damaged invalid long short = absurd ends
+  complete_as InputFault a b ends tells own input output disk damaged invalid long short = absurd (input ends)
+  complete_as OutputFault a b ends tells own input output disk damaged invalid long short = absurd (output ends)
+  complete_as DiskFault a b ends tells own input output disk damaged invalid long short = absurd (disk ends)
+  complete_as NoMemory a b ends tells own input output disk damaged invalid long short = inr refl
+  complete_as (Damaged Foreign) a b ends tells own input output disk damaged invalid long short = absurd (own (ends.foreign tells))
+  complete_as (Damaged (Log number)) a b ends tells own input output disk damaged invalid long short = absurd (damaged number refl)
+  complete_as (Damaged (Invalid name)) a b ends tells own input output disk damaged invalid long short = absurd (invalid name refl)
+  complete_as InputTooLong a b ends tells own input output disk damaged invalid long short = absurd (omega (arith, long refl, short))
 
-    pub complete_long_as : (status : Status) (a b : H) → Ends s g a b status → s.tells → (IsForeign (g.standing a) → ⊥) → (Rose (s.input_faults a) (s.input_faults b) → ⊥) → (Rose (g.output_faults a) (g.output_faults b) → ⊥)
-        → (Rose (g.disk_faults a) (g.disk_faults b) → ⊥) → ((number : ℕ) → status ≡ Damaged (Log number) → right ≡ Err number) → (status ≡ Done → length (s.unread a) ≤ 2 ^ 30)
-        → (opened : R) → right ≡ Ok opened → 2 ^ 30 < length (s.unread a) → (status ≡ InputTooLong) ⊎ (status ≡ NoMemory)
-    complete_long_as Done a b ends tells own input output disk damaged done opened is long = absurd (omega (arith, done refl, long))
-    complete_long_as Usage a b ends tells own input output disk damaged done opened is long = absurd ends
-    complete_long_as InputFault a b ends tells own input output disk damaged done opened is long = absurd (input ends)
-    complete_long_as OutputFault a b ends tells own input output disk damaged done opened is long = absurd (output ends)
-    complete_long_as DiskFault a b ends tells own input output disk damaged done opened is long = absurd (disk ends)
-    complete_long_as NoMemory a b ends tells own input output disk damaged done opened is long = inr refl
-    complete_long_as (Damaged Foreign) a b ends tells own input output disk damaged done opened is long = absurd (own (ends.foreign tells))
-    complete_long_as (Damaged (Log number)) a b ends tells own input output disk damaged done opened is long = absurd (no_damage opened number (sym is ∙ damaged number refl))
-    complete_long_as InputTooLong a b ends tells own input output disk damaged done opened is long = inl refl
+  pub complete_long_as : (status : Status) (a b : H) → Ends s g a b status → s.tells → (IsForeign (g.standing a) → ⊥) → (Rose (s.input_faults a) (s.input_faults b) → ⊥) → (Rose (g.output_faults a) (g.output_faults b) → ⊥)
+      → (Rose (g.disk_faults a) (g.disk_faults b) → ⊥) → ((number : ℕ) → ¬ (status ≡ Damaged (Log number))) → ((name : List ℕ) → ¬ (status ≡ Damaged (Invalid name))) → (status ≡ Done → length (s.unread a) ≤ 2 ^ 30)
+      → 2 ^ 30 < length (s.unread a) → (status ≡ InputTooLong) ⊎ (status ≡ NoMemory)
+  complete_long_as Done a b ends tells own input output disk damaged invalid done long = absurd (omega (arith, done refl, long))
+  complete_long_as Usage a b ends tells own input output disk damaged invalid done long = absurd ends
+  complete_long_as InputFault a b ends tells own input output disk damaged invalid done long = absurd (input ends)
+  complete_long_as OutputFault a b ends tells own input output disk damaged invalid done long = absurd (output ends)
+  complete_long_as DiskFault a b ends tells own input output disk damaged invalid done long = absurd (disk ends)
+  complete_long_as NoMemory a b ends tells own input output disk damaged invalid done long = inr refl
+  complete_long_as (Damaged Foreign) a b ends tells own input output disk damaged invalid done long = absurd (own (ends.foreign tells))
+  complete_long_as (Damaged (Log number)) a b ends tells own input output disk damaged invalid done long = absurd (damaged number refl)
+  complete_long_as (Damaged (Invalid name)) a b ends tells own input output disk damaged invalid done long = absurd (invalid name refl)
+  complete_long_as InputTooLong a b ends tells own input output disk damaged invalid done long = inl refl
 
-  pub complete_damaged_as : (status : Status) (a b : H) → Ends s g a b status → s.tells → (IsForeign (g.standing a) → ⊥) → (Rose (g.disk_faults a) (g.disk_faults b) → ⊥) → (number : ℕ)
-      → (status ≡ Usage) ⊎ ((status ≡ Damaged Foreign) ⊎ ((status ≡ Damaged (Log number)) ⊎ ((status ≡ DiskFault) ⊎ (status ≡ NoMemory)))) → (status ≡ Damaged (Log number)) ⊎ (status ≡ NoMemory)
-  complete_damaged_as status a b ends tells own disk number (inl is) = absurd (subst (Ends s g a b) is ends)
-  complete_damaged_as status a b ends tells own disk number (inr (inl is)) = absurd (own (foreign_by status a b ends is tells))
-  complete_damaged_as status a b ends tells own disk number (inr (inr (inl is))) = inl is
-  complete_damaged_as status a b ends tells own disk number (inr (inr (inr (inl is)))) = absurd (disk (subst (Ends s g a b) is ends))
-  complete_damaged_as status a b ends tells own disk number (inr (inr (inr (inr is)))) = inr is
+  pub complete_damaged_as : (status : Status) (a b : H) → Ends s g a b status → s.tells → (IsForeign (g.standing a) → ⊥) → (Rose (g.disk_faults a) (g.disk_faults b) → ⊥) → (damage : Damage)
+      → TellsDamage damage status → (status ≡ Damaged damage) ⊎ (status ≡ NoMemory)
+  complete_damaged_as status a b ends tells own disk damage (inl is) = absurd (subst (Ends s g a b) is ends)
+  complete_damaged_as status a b ends tells own disk damage (inr (inl is)) = absurd (own (foreign_by status a b ends is tells))
+  complete_damaged_as status a b ends tells own disk damage (inr (inr (inl is))) = inl is
+  complete_damaged_as status a b ends tells own disk damage (inr (inr (inr (inl is)))) = absurd (disk (subst (Ends s g a b) is ends))
+  complete_damaged_as status a b ends tells own disk damage (inr (inr (inr (inr is)))) = inr is
 
 -- ---- where the files couldn't be mounted
 
@@ -174,12 +190,14 @@ is_idle Done = false
 is_idle InputFault = false
 is_idle OutputFault = false
 is_idle (Damaged (Log number)) = false
+is_idle (Damaged (Invalid name)) = false
 is_idle InputTooLong = false
 
 module _ {H : Type 0} (s : source.Ghosts H) (g : host.Ghosts H) where
   pub mount_idle : (status : Status) (a b : H) → MountStops s g a b status → is_idle status ≡ true
   mount_idle (Damaged Foreign) a b stops = refl
   mount_idle (Damaged (Log group)) a b stops = absurd stops
+  mount_idle (Damaged (Invalid name)) a b stops = absurd stops
   mount_idle DiskFault a b stops = refl
   mount_idle NoMemory a b stops = refl
   mount_idle Done a b stops = absurd stops
@@ -191,6 +209,7 @@ module _ {H : Type 0} (s : source.Ghosts H) (g : host.Ghosts H) where
   pub mount_ends : (status : Status) (a b : H) → MountStops s g a b status → (s.tells → g.files b ≡ g.files a) → IsSilent s g a b → Ends s g a b status
   mount_ends (Damaged Foreign) a b stops files silent = record { foreign = stops.0; kept = files; calm = stops.1; silent = silent }
   mount_ends (Damaged (Log group)) a b stops files silent = absurd stops
+  mount_ends (Damaged (Invalid name)) a b stops files silent = absurd stops
   mount_ends DiskFault a b stops files silent = stops
   mount_ends NoMemory a b stops files silent = stops
   mount_ends Done a b stops files silent = absurd stops
@@ -202,6 +221,7 @@ module _ {H : Type 0} (s : source.Ghosts H) (g : host.Ghosts H) where
   pub mount_as : (status : Status) (a b : H) → MountStops s g a b status → (status ≡ Damaged Foreign) ⊎ ((status ≡ DiskFault) ⊎ (status ≡ NoMemory))
   mount_as (Damaged Foreign) a b stops = inl refl
   mount_as (Damaged (Log group)) a b stops = absurd stops
+  mount_as (Damaged (Invalid name)) a b stops = absurd stops
   mount_as DiskFault a b stops = inr (inl refl)
   mount_as NoMemory a b stops = inr (inr refl)
   mount_as Done a b stops = absurd stops

@@ -1,5 +1,5 @@
 -- What a run did, put together from its parts.
-use Rattle.std.proofs.Common.{◌≡◌, ◌⊎◌, ℕ, ◌^◌, true, false, List, ◌++◌, length, Result, Ok, Err, inl, inr, refl, sym, ap, subst, ◌∙◌}
+use Rattle.std.proofs.Common.{◌≡◌, ◌⊎◌, ℕ, ◌^◌, true, false, List, ◌++◌, length, inl, inr, refl, sym, ap, subst, ◌∙◌}
 use Rattle.hs_host.specs.declared.file_kind.FileKind.TheVariants.{Log as LogFile}
 use Rattle.hs_host.specs.Disk.{Leaves}
 use Rattle.hs_host.specs.Files.{Five}
@@ -15,73 +15,86 @@ use Rattle.hs_run.specs.declared.stop.Stop.{Stop}
 use Rattle.hs_run.specs.declared.stop.Stop.TheVariants as stop
 use Rattle.hs_run.proofs.Alone.{alone_on}
 use Rattle.hs_run.proofs.Prefixes.{nothing_yet}
-use Rattle.hs_program.specs.declared.damage.Damage.TheVariants.{Foreign, Log}
+use Rattle.hs_program.specs.declared.damage.Damage.{Damage}
+use Rattle.hs_program.specs.declared.damage.Damage.TheVariants.{Foreign, Log, Invalid}
 use Rattle.hs_program.specs.declared.fault.OpenFault.{OpenFault}
 use Rattle.hs_program.specs.declared.fault.OpenFault.TheVariants as fault
 use Rattle.hs_program.specs.declared.status.Status.{Status}
 use Rattle.hs_program.specs.declared.status.Status.TheVariants.{Done, Usage, InputFault, OutputFault, DiskFault, NoMemory, Damaged, InputTooLong}
-use Rattle.hs_program.specs.Ahead.{ahead, all_told, ended_with, shown, shown_over, told_within, texts_from}
+use Rattle.hs_program.specs.Ahead.{ahead, all_told, ended_with, told_within, texts_from}
+use Rattle.hs_program.specs.Damaged.{IsDamagedAt}
 use Rattle.hs_program.specs.Crash.{IsFound, IsKept, IsQuiet, IsSafe, Survives}
 use Rattle.hs_program.specs.Lawful.{IsLawful}
 use Rattle.hs_program.specs.Meaning.{Meaning, Opened, nothing_logged}
-use Rattle.hs_program.specs.Opening.{opened_of, texts_at}
+use Rattle.hs_program.specs.Opening.{IsInvalid, IsOpened, texts_at}
 use Rattle.hs_program.specs.Run.{HasLog, Runs}
-use Rattle.hs_program.specs.Stop.{is_damaged, stopped, unopened}
+use Rattle.hs_program.specs.Stop.{TellsDamage, is_damaged, stopped, unopened}
 use Rattle.hs_program.proofs.Openings.{same_gives}
-use Rattle.hs_program.proofs.Replayed.{same_Err, same_Ok, unborn_gives}
+use Rattle.hs_program.proofs.Damaged.{damaged_one, invalid_one, invalid_undamaged, opened_undamaged, opened_valid}
+use Rattle.hs_program.proofs.Replayed.{opened_one, unborn_gives}
 use Rattle.hs_program.proofs.Stops.{is_idle}
 use Rattle.hs_program.proofs.Safe.{born_safe, found_kept, held_opened, left_now, reopened, safe, safe_now, same_survives, start_safe, unborn_or_new}
-
-abbrev gave : Opened → Result Opened ℕ
-gave opened = Ok opened
 
 -- ---- a run that did nothing
 
 pub idle_never : (status other : Status) → is_idle status ≡ true → is_idle other ≡ false → status ≡ other → ⊥
 idle_never status other idle busy is = let e : true ≡ false = sym idle ∙ ap is_idle is ∙ busy in absurd (cc)
 
-idle_as : (status : Status) (number : ℕ) → is_idle status ≡ true → (status ≡ Usage) ⊎ ((status ≡ Damaged Foreign) ⊎ ((status ≡ Damaged (Log number)) ⊎ ((status ≡ DiskFault) ⊎ (status ≡ NoMemory))))
-idle_as Usage number idle = inl refl
-idle_as (Damaged Foreign) number idle = inr (inl refl)
-idle_as DiskFault number idle = inr (inr (inr (inl refl)))
-idle_as NoMemory number idle = inr (inr (inr (inr refl)))
-idle_as Done number idle = absurd (cc)
-idle_as InputFault number idle = absurd (cc)
-idle_as OutputFault number idle = absurd (cc)
-idle_as (Damaged (Log n)) number idle = absurd (cc)
-idle_as InputTooLong number idle = absurd (cc)
+idle_as : (status : Status) (damage : Damage) → is_idle status ≡ true → TellsDamage damage status
+idle_as Usage damage idle = inl refl
+idle_as (Damaged Foreign) damage idle = inr (inl refl)
+idle_as DiskFault damage idle = inr (inr (inr (inl refl)))
+idle_as NoMemory damage idle = inr (inr (inr (inr refl)))
+idle_as Done damage idle = absurd (cc)
+idle_as InputFault damage idle = absurd (cc)
+idle_as OutputFault damage idle = absurd (cc)
+idle_as (Damaged (Log n)) damage idle = absurd (cc)
+idle_as (Damaged (Invalid n)) damage idle = absurd (cc)
+idle_as InputTooLong damage idle = absurd (cc)
+
+-- nothing was written, and no turns were taken to their end
+quiet_never : {A : Type 0} (status : Status) (before out : List ℕ) → out ≡ before → (status ≡ Done → ⊥) → (status ≡ InputTooLong → ⊥) → (¬ (out ≡ before)) ⊎ ((status ≡ Done) ⊎ (status ≡ InputTooLong)) → A
+quiet_never status before out told done long (inl wrote) = absurd (wrote told)
+quiet_never status before out told done long (inr (inl is)) = absurd (done is)
+quiet_never status before out told done long (inr (inr is)) = absurd (long is)
 
 -- ---- one whose log couldn't be opened
 
 pub unopened_done : (why : OpenFault) → unopened why ≡ Done → ⊥
 unopened_done fault.Disk is = absurd (cc)
 unopened_done (fault.Damaged n) is = absurd (cc)
+unopened_done (fault.Invalid n) is = absurd (cc)
 unopened_done fault.NoMemory is = absurd (cc)
 
 pub unopened_long : (why : OpenFault) → unopened why ≡ InputTooLong → ⊥
 unopened_long fault.Disk is = absurd (cc)
 unopened_long (fault.Damaged n) is = absurd (cc)
+unopened_long (fault.Invalid n) is = absurd (cc)
 unopened_long fault.NoMemory is = absurd (cc)
 
 -- where it wasn't for a fault, it was for a damage
-damage_of : (why : OpenFault) → (unopened why ≡ DiskFault → ⊥) → (unopened why ≡ NoMemory → ⊥) → (number : ℕ) × (why ≡ fault.Damaged number)
+damage_of : (why : OpenFault) → (unopened why ≡ DiskFault → ⊥) → (unopened why ≡ NoMemory → ⊥) → ((number : ℕ) × (why ≡ fault.Damaged number)) ⊎ ((name : List ℕ) × (why ≡ fault.Invalid name))
 damage_of fault.Disk disk memory = absurd (disk refl)
-damage_of (fault.Damaged n) disk memory = (n, refl)
+damage_of (fault.Damaged n) disk memory = inl (n, refl)
+damage_of (fault.Invalid n) disk memory = inr (n, refl)
 damage_of fault.NoMemory disk memory = absurd (memory refl)
 
 damaged_as : (why : OpenFault) (number : ℕ) → unopened why ≡ Damaged (Log number) → why ≡ fault.Damaged number
 damaged_as fault.Disk number is = absurd (cc)
 damaged_as (fault.Damaged n) number is = cc
+damaged_as (fault.Invalid n) number is = absurd (cc)
 damaged_as fault.NoMemory number is = absurd (cc)
 
-damaged_by : (why : OpenFault) → is_damaged (unopened why) ≡ true → (number : ℕ) × (why ≡ fault.Damaged number)
-damaged_by fault.Disk is = absurd (cc)
-damaged_by (fault.Damaged n) is = (n, refl)
-damaged_by fault.NoMemory is = absurd (cc)
+invalid_as : (why : OpenFault) (name : List ℕ) → unopened why ≡ Damaged (Invalid name) → why ≡ fault.Invalid name
+invalid_as fault.Disk name is = absurd (cc)
+invalid_as (fault.Damaged n) name is = absurd (cc)
+invalid_as (fault.Invalid n) name is = cc
+invalid_as fault.NoMemory name is = absurd (cc)
 
 pub unopened_own : (why : OpenFault) → unopened why ≡ Damaged Foreign → ⊥
 unopened_own fault.Disk is = absurd (cc)
 unopened_own (fault.Damaged n) is = absurd (cc)
+unopened_own (fault.Invalid n) is = absurd (cc)
 unopened_own fault.NoMemory is = absurd (cc)
 
 -- ---- one that took turns
@@ -126,10 +139,11 @@ turned_from f texts texts-2 input input-2 before before-2 files mid after out no
     (subst (λ (x : List ℕ). Turned f texts-2 x before files mid after out now status) same_input
     (subst (λ (x : List ℕ). Turned f texts-2 input-2 x files mid after out now status) same_out turned))
 
-module _ (m : Meaning) (files : Five (List ℕ)) (input before : List ℕ) (start : History) (first : start.now.out ≡ before) where
+module _ (m : Meaning) (law : IsLawful m) (files : Five (List ℕ)) (input before : List ℕ) (start : History) (first : start.now.out ≡ before) where
   pub idle_runs : (status : Status) → is_idle status ≡ true → Runs m files input before start files before start status
   idle_runs status idle = record {
-    front = nothing_yet before _;
+    front = λ opened is. nothing_yet before _;
+    opened_first = quiet_never status before before refl (λ done. absurd (idle_never status Done idle refl done)) (λ long. absurd (idle_never status InputTooLong idle refl long));
     done = λ opened is done. absurd (idle_never status Done idle refl done);
     before_too_long = λ opened is long. absurd (idle_never status InputTooLong idle refl long);
     log = λ opened is done. absurd (idle_never status Done idle refl done);
@@ -141,35 +155,54 @@ module _ (m : Meaning) (files : Five (List ℕ)) (input before : List ℕ) (star
     begun = λ unborn. inl unborn;
     alone = λ quiet. since_none _ start;
     damaged = λ number is. absurd (idle_never status (Damaged (Log number)) idle refl is);
-    damage = λ number is. idle_as status number idle;
-    kept = λ is. refl;
+    damage = λ number is. idle_as status (Log number) idle;
+    damaged_silent = λ number is. refl;
     damaged_kept = λ number is. refl;
+    invalid = λ name is. absurd (idle_never status (Damaged (Invalid name)) idle refl is);
+    violation = λ name is. idle_as status (Invalid name) idle;
+    invalid_silent = λ name is. refl;
+    invalid_kept = λ name is. refl;
+    kept = λ is. refl;
   }
 
   -- what stands in the end and was written by then
   module _ (after : Five (List ℕ)) (out : List ℕ) (now : History) (last : now.now.out ≡ out) (leaves : Leaves (disk_of now.now LogFile) after.log) where
     -- the log couldn't be opened
     module _ (why : OpenFault) (told : out ≡ before) (others : OnlyLog files after) (found : IsQuiet files start.now → Since (IsFound m files start.now) start now) (alone : Since (IsLater start.now) start now)
-        (damaged : (number : ℕ) → why ≡ fault.Damaged number → opened_of m files.log ≡ Err number) (untouched : (number : ℕ) → why ≡ fault.Damaged number → after ≡ files)
-        (kept : (number : ℕ) → opened_of m files.log ≡ Err number → after ≡ files) (begun : is_born files.log ≡ false → IsUnbornOrNew after.log) where
-      unopened_crash : IsQuiet files start.now → (opened : Opened) → opened_of m files.log ≡ Ok opened → Since (IsKept m files opened input before start.now) start now
+        (damaged : (number : ℕ) → why ≡ fault.Damaged number → IsDamagedAt m files.log number × (after ≡ files)) (invalid : (name : List ℕ) → why ≡ fault.Invalid name → IsInvalid m files.log name × (after ≡ files))
+        (kept : ((number : ℕ) → IsDamagedAt m files.log number → after ≡ files) × ((name : List ℕ) → IsInvalid m files.log name → after ≡ files)) (begun : is_born files.log ≡ false → IsUnbornOrNew after.log) where
+      unopened_crash : IsQuiet files start.now → (opened : Opened) → IsOpened m files.log opened → Since (IsKept m files opened input before start.now) start now
       unopened_crash quiet opened is = since_weaker (found quiet) (λ at. found_kept m files opened input before start.now at is first)
 
-      unopened_safe : IsQuiet files start.now → (opened : Opened) → opened_of m files.log ≡ Ok opened → HasLog files.log (unopened why) → IsSafe m files.log opened input before now.now
+      unopened_safe : IsQuiet files start.now → (opened : Opened) → IsOpened m files.log opened → HasLog files.log (unopened why) → IsSafe m files.log opened input before now.now
       unopened_safe quiet opened is (inl born) = born_safe m files opened input before start now is born quiet first (unopened_crash quiet opened is)
-      unopened_safe quiet opened is (inr other) =
-          let by = damage_of why other.0 other.1 in
-          absurd (let e : gave opened ≡ Err by.0 = sym is ∙ damaged by.0 by.1 in cc)
+      unopened_safe quiet opened is (inr other) = elim (damage_of why other.0 other.1) [
+        | inl by ↦ absurd (opened_undamaged m law files.log opened by.0 is (damaged by.0 by.1).0)
+        | inr by ↦ absurd (opened_valid m law files.log by.0 opened is (invalid by.0 by.1).0)
+      ]
 
-      unopened_as : (w : OpenFault) → why ≡ w → (number : ℕ) → opened_of m files.log ≡ Err number
-          → (unopened w ≡ Usage) ⊎ ((unopened w ≡ Damaged Foreign) ⊎ ((unopened w ≡ Damaged (Log number)) ⊎ ((unopened w ≡ DiskFault) ⊎ (unopened w ≡ NoMemory))))
-      unopened_as fault.Disk w number is = inr (inr (inr (inl refl)))
-      unopened_as (fault.Damaged n) w number is = inr (inr (inl (ap (λ (k : ℕ). Damaged (Log k)) (same_Err n number (sym (damaged n w) ∙ is)))))
-      unopened_as fault.NoMemory w number is = inr (inr (inr (inr refl)))
+      damaged_told : (w : OpenFault) → why ≡ w → (number : ℕ) → IsDamagedAt m files.log number → TellsDamage (Log number) (unopened w)
+      damaged_told fault.Disk w number is = inr (inr (inr (inl refl)))
+      damaged_told (fault.Damaged n) w number is = inr (inr (inl (ap (λ (k : ℕ). Damaged (Log k)) (damaged_one m law files.log n number (damaged n w).0 is))))
+      damaged_told (fault.Invalid n) w number is = absurd (invalid_undamaged m law files.log n number (invalid n w).0 is)
+      damaged_told fault.NoMemory w number is = inr (inr (inr (inr refl)))
+
+      invalid_told : (w : OpenFault) → why ≡ w → (name : List ℕ) → IsInvalid m files.log name → TellsDamage (Invalid name) (unopened w)
+      invalid_told fault.Disk w name is = inr (inr (inr (inl refl)))
+      invalid_told (fault.Damaged n) w name is = absurd (invalid_undamaged m law files.log name n is (damaged n w).0)
+      invalid_told (fault.Invalid n) w name is = inr (inr (inl (ap (λ (k : List ℕ). Damaged (Invalid k)) (invalid_one m law files.log n name (invalid n w).0 is))))
+      invalid_told fault.NoMemory w name is = inr (inr (inr (inr refl)))
+
+      untouched : (w : OpenFault) → why ≡ w → is_damaged (unopened w) ≡ true → after ≡ files
+      untouched fault.Disk w is = absurd (cc)
+      untouched (fault.Damaged n) w is = (damaged n w).1
+      untouched (fault.Invalid n) w is = (invalid n w).1
+      untouched fault.NoMemory w is = absurd (cc)
 
       pub unopened_runs : Runs m files input before start after out now (unopened why)
       unopened_runs = record {
-        front = subst (λ (o : List ℕ). WritesPrefix before o (shown m files.log input)) (sym told) (nothing_yet before _);
+        front = λ opened is. subst (λ (o : List ℕ). WritesPrefix before o (all_told (ahead m files.log opened) input)) (sym told) (nothing_yet before _);
+        opened_first = quiet_never (unopened why) before out told (unopened_done why) (unopened_long why);
         done = λ opened is done. absurd (unopened_done why done);
         before_too_long = λ opened is long. absurd (unopened_long why long);
         log = λ opened is done. absurd (unopened_done why done);
@@ -178,16 +211,21 @@ module _ (m : Meaning) (files : Five (List ℕ)) (input before : List ℕ) (star
         crash = unopened_crash;
         safe = unopened_safe;
         left = λ quiet opened is has. left_now m files.log opened input before now.now out after.log (unopened_safe quiet opened is has) last leaves;
-        begun = λ unborn. unborn_or_new m files.log input before out after.log unborn told (begun unborn);
+        begun = λ unborn. unborn_or_new m law files.log input before out after.log unborn told (begun unborn);
         alone = λ quiet. alone;
-        damaged = λ number is. damaged number (damaged_as why number is);
-        damage = λ number is. unopened_as why refl number is;
-        kept = λ is. let by = damaged_by why is in untouched by.0 by.1;
-        damaged_kept = kept;
+        damaged = λ number is. (damaged number (damaged_as why number is)).0;
+        damage = damaged_told why refl;
+        damaged_silent = λ number is. told;
+        damaged_kept = kept.0;
+        invalid = λ name is. (invalid name (invalid_as why name is)).0;
+        violation = invalid_told why refl;
+        invalid_silent = λ name is. told;
+        invalid_kept = kept.1;
+        kept = untouched why refl;
       }
 
     -- turns were taken behind an opening
-    module _ (law : IsLawful m) (opened : Opened) (is : opened_of m files.log ≡ Ok opened) (mid : History) (between : Five (List ℕ)) (kept : Kept) (log : IsLog mid between kept) (epoch : epoch_in kept ≡ 1)
+    module _ (opened : Opened) (is : IsOpened m files.log opened) (mid : History) (between : Five (List ℕ)) (kept : Kept) (log : IsLog mid between kept) (epoch : epoch_in kept ≡ 1)
         (texts : texts_in between ≡ texts_at files.log) (told : mid.now.out ≡ before) (only : OnlyLog files between) (found : IsQuiet files start.now → Since (IsFound m files start.now) start mid)
         (alone : Since (IsLater start.now) start mid) (status : Status)
         (turned : Turned (ahead m files.log opened) (texts_at files.log) input before between mid after out now status) where
@@ -207,32 +245,41 @@ module _ (m : Meaning) (files : Five (List ℕ)) (input before : List ℕ) (star
       turned_crash quiet = since_join (since_weaker (found quiet) (λ at. found_kept m files opened input before start.now at is first)) (since_weaker each_safe (λ at safe. inr safe))
 
       -- what the log gives is this
-      same : (o : Opened) → opened_of m files.log ≡ Ok o → opened ≡ o
-      same o gives = same_Ok opened o (sym is ∙ gives)
+      same : (o : Opened) → IsOpened m files.log o → opened ≡ o
+      same o gives = opened_one m law files.log opened o is gives
 
-      never : (number : ℕ) → opened_of m files.log ≡ Err number → ⊥
-      never number gives = let e : gave opened ≡ Err number = sym is ∙ gives in absurd (cc)
+      whole : {A : Type 0} (number : ℕ) → IsDamagedAt m files.log number → A
+      whole number damaged = absurd (opened_undamaged m law files.log opened number is damaged)
 
-      hurt : is_damaged status ≡ true → ⊥
-      hurt damaged = let e : true ≡ false = sym damaged ∙ turned.whole in absurd (cc)
+      valid : {A : Type 0} (name : List ℕ) → IsInvalid m files.log name → A
+      valid name invalid = absurd (opened_valid m law files.log name opened is invalid)
+
+      hurt : {A : Type 0} → is_damaged status ≡ true → A
+      hurt damaged = absurd (let e : true ≡ false = sym damaged ∙ turned.whole in cc)
 
       pub turned_runs : Runs m files input before start after out now status
       turned_runs = record {
-        front = subst (λ (r : Result Opened ℕ). WritesPrefix before out (shown_over m files.log input r)) (sym is) turned.front;
+        front = λ o gives. subst (λ (x : Opened). WritesPrefix before out (all_told (ahead m files.log x) input)) (same o gives) turned.front;
+        opened_first = λ wrote. (opened, is);
         done = λ o gives done. subst (λ (x : Opened). out ≡ before ++ all_told (ahead m files.log x) input) (same o gives) (turned.done done);
         before_too_long = λ o gives long. subst (λ (x : Opened). out ≡ before ++ told_within (2 ^ 30) (ahead m files.log x) input) (same o gives) (turned.too_long long);
         log = λ o gives done. subst (λ (x : Opened). IsWholeLog 1 (texts_at files.log ++ texts_from (ahead m files.log x) input) after.log) (same o gives) (turned.log done);
-        reopens = λ o gives done. subst (λ (x : Opened). opened_of m after.log ≡ Ok (ended_with m files.log x input)) (same o gives) (reopened m law files.log after.log opened input is (turned.log done));
+        reopens = λ o gives done. subst (λ (x : Opened). IsOpened m after.log (ended_with m files.log x input)) (same o gives) (reopened m law files.log after.log opened input is (turned.log done));
         others = only_on files between after LogFile only turned.others;
         crash = λ quiet o gives. subst (λ (x : Opened). Since (IsKept m files x input before start.now) start now) (same o gives) (turned_crash quiet);
         safe = λ quiet o gives has. subst (λ (x : Opened). IsSafe m files.log x input before now.now) (same o gives) turned_safe;
         left = λ quiet o gives has. subst (λ (x : Opened). Survives m files.log x input before out after.log) (same o gives) turned_left;
-        begun = λ unborn. inr (subst (λ (x : Opened). Survives m files.log x input before out after.log) (same (nothing_logged m) (unborn_gives m files.log unborn)) turned_left);
+        begun = λ unborn. inr (subst (λ (x : Opened). Survives m files.log x input before out after.log) (same (nothing_logged m) (unborn_gives m law files.log unborn)) turned_left);
         alone = λ quiet. alone_on alone turned.alone;
-        damaged = λ number damaged. absurd (hurt (ap is_damaged damaged));
-        damage = λ number gives. absurd (never number gives);
-        kept = λ damaged. absurd (hurt damaged);
-        damaged_kept = λ number gives. absurd (never number gives);
+        damaged = λ number damaged. hurt (ap is_damaged damaged);
+        damage = λ number gives. whole number gives;
+        damaged_silent = λ number gives. whole number gives;
+        damaged_kept = λ number gives. whole number gives;
+        invalid = λ name invalid. hurt (ap is_damaged invalid);
+        violation = λ name gives. valid name gives;
+        invalid_silent = λ name gives. valid name gives;
+        invalid_kept = λ name gives. valid name gives;
+        kept = λ damaged. hurt damaged;
       }
 
 -- the same run, seen from a moment at which nothing was other, and up to one at which nothing is

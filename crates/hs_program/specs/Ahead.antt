@@ -1,11 +1,11 @@
 -- What is ahead of a run over a log, and what it tells, makes and ends with.
-use Rattle.std.specs.Prelude.{ℕ, List, [], take, Result, Ok, Err}
+use Rattle.std.specs.Prelude.{ℕ, List, take}
 use Rattle.hs_entries.specs.Items.{items, whole_items}
 use Rattle.hs_run.specs.Future.{Future}
 use Rattle.hs_run.specs.Pieces.{made_by, transcript, transcript_within}
 use Rattle.hs_run.specs.Running.{pieces}
 use Rattle.hs_program.specs.Meaning.{Meaning, Opened}
-use Rattle.hs_program.specs.Opening.{opened_of, size_at}
+use Rattle.hs_program.specs.Opening.{size_at}
 
 -- all that is written over an input
 abbrev pub all_told : Future → List ℕ → List ℕ
@@ -26,11 +26,3 @@ ahead m log opened = m.future opened (size_at log)
 -- what there is when that run has ended
 abbrev pub ended_with : Meaning → List ℕ → Opened → List ℕ → Opened
 ended_with m log opened input = m.ended opened (size_at log) (items 1 input)
-
--- all that it writes, over what its log gives
-abbrev pub shown_over : Meaning → List ℕ → List ℕ → Result Opened ℕ → List ℕ
-shown_over m log input (Ok opened) = all_told (ahead m log opened) input
-shown_over m log input (Err number) = []
-
-abbrev pub shown : Meaning → List ℕ → List ℕ → List ℕ
-shown m log input = shown_over m log input (opened_of m log)

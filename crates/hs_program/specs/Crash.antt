@@ -1,5 +1,5 @@
 -- What a crash leaves of the database while a run is at work.
-use Rattle.std.specs.Prelude.{◌≡◌, ◌⊎◌, ℕ, List, take, Ok}
+use Rattle.std.specs.Prelude.{◌≡◌, ◌⊎◌, ℕ, List, take}
 use Rattle.hs_durable.specs.Durable.{Point, IsBirth, Survives as PointSurvives}
 use Rattle.hs_host.specs.Disk.{Leaves, settled}
 use Rattle.hs_host.specs.Files.{Five}
@@ -8,7 +8,7 @@ use Rattle.hs_host.specs.declared.file_kind.FileKind.TheVariants.{Log}
 use Rattle.hs_run.specs.Crash.{AcknowledgesBehind, HasNoLine}
 use Rattle.hs_program.specs.Ahead.{ahead, texts_from}
 use Rattle.hs_program.specs.Meaning.{Meaning, Opened}
-use Rattle.hs_program.specs.Opening.{opened_of, replayed, texts_at}
+use Rattle.hs_program.specs.Opening.{AreRedone, IsOpened, texts_at}
 
 -- what a log stands for: its texts, none where it isn't born
 abbrev pub point_of : List ℕ → Point
@@ -24,8 +24,8 @@ IsQuiet files m = disk_of m Log ≡ settled files.log
 pub record Survives (m : Meaning) (old : List ℕ) (opened : Opened) (input before out log : List ℕ) : Type 0 where
   pub by : PointSurvives (point_of old) (texts_from (ahead m old opened) input) 0 (point_of log)
   pub state : Opened
-  pub made : replayed m opened (take by.count (texts_from (ahead m old opened) input)) ≡ Ok state
-  pub reopens : opened_of m log ≡ Ok state
+  pub made : AreRedone m opened (take by.count (texts_from (ahead m old opened) input)) state
+  pub reopens : IsOpened m log state
   pub told : AcknowledgesBehind before out state.commits
   pub begun : HasNoLine before out → by.count ≡ 0
 
@@ -39,7 +39,7 @@ IsKept m files opened input before start at = IsBirth files start at ⊎ IsSafe 
 
 -- a log gives what another gives, and by the same commits
 abbrev pub GivesSame : Meaning → List ℕ → List ℕ → Type 0
-GivesSame m old log = (opened_of m log ≡ opened_of m old) × (texts_at log ≡ texts_at old)
+GivesSame m old log = ((opened : Opened) → IsOpened m old opened → IsOpened m log opened) × (texts_at log ≡ texts_at old)
 
 -- While the log is opened nothing is written, and a log that wasn't born is being made, or whatever a crash leaves gives
 -- what was found.

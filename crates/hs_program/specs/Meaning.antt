@@ -11,11 +11,13 @@ pub record Opened : Type 0 where
   pub last : Option ℕ
   pub commits : ℕ
 
--- The database before any commit; what a text makes of what those before it made, none where it makes nothing; what is ahead of a
--- run over that, where the log has so many bytes; and what there is when a run over these items has ended.
-pub record Meaning : Type 0 where
+-- The database before any commit; which text makes what of what those before it made; the name of the first constraint that is
+-- violated, none where none is; what is ahead of a run over that, where the log has so many bytes; and what there is when a run
+-- over these items has ended.
+pub record Meaning : Type 1 where
   pub empty : Database
-  pub redone : Opened → List ℕ → Option Opened
+  pub Redone : Opened → List ℕ → Opened → Type 0
+  pub violated : Opened → Option (List ℕ)
   pub future : Opened → ℕ → Future
   pub ended : Opened → ℕ → List Item → Opened
 

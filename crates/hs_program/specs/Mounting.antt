@@ -5,7 +5,7 @@ use Rattle.hs_host.specs.declared.host.Host as host
 use Rattle.hs_host.specs.Host.{Rose}
 use Rattle.hs_host.specs.Files.{IsForeign}
 use Rattle.hs_run.specs.Stop.{NoFaults}
-use Rattle.hs_program.specs.declared.damage.Damage.TheVariants.{Foreign, Log}
+use Rattle.hs_program.specs.declared.damage.Damage.TheVariants.{Foreign, Log, Invalid}
 use Rattle.hs_program.specs.declared.status.Status.{Status}
 use Rattle.hs_program.specs.declared.status.Status.TheVariants.{Done, Usage, InputFault, OutputFault, DiskFault, NoMemory, Damaged, InputTooLong}
 
@@ -14,6 +14,7 @@ use Rattle.hs_program.specs.declared.status.Status.TheVariants.{Done, Usage, Inp
 abbrev pub MountStops : {H : Type 0} → source.Ghosts H → host.Ghosts H → H → H → Status → Type 0
 MountStops s g old new (Damaged Foreign) = (s.tells → IsForeign (g.standing old)) × NoFaults s g old new
 MountStops s g old new (Damaged (Log group)) = ⊥
+MountStops s g old new (Damaged (Invalid name)) = ⊥
 MountStops s g old new DiskFault = Rose (g.disk_faults old) (g.disk_faults new)
 MountStops s g old new NoMemory = NoFaults s g old new
 MountStops s g old new Done = ⊥

@@ -1,5 +1,5 @@
 -- What a run does, on the way and in the end.
-use Rattle.std.specs.Prelude.{◌≡◌, ◌⊎◌, ℕ, ◌^◌, true, false, List, ◌++◌, Ok, Err}
+use Rattle.std.specs.Prelude.{◌≡◌, ◌⊎◌, ℕ, ◌^◌, true, false, List, ◌++◌, Some}
 use Rattle.hs_host.specs.declared.source.Source as source
 use Rattle.hs_host.specs.declared.host.Host as host
 use Rattle.hs_host.specs.Files.{Five, IsOpen}
@@ -10,29 +10,41 @@ use Rattle.hs_log.specs.LogReading.{left_in}
 use Rattle.hs_log.specs.declared.log_reader.LogReader.{LogReader}
 use Rattle.hs_run.specs.Crash.{IsLater, OnlyLog, texts_in}
 use Rattle.hs_run.specs.Holding.{WritesPrefix}
-use Rattle.hs_program.specs.declared.damage.Damage.TheVariants.{Foreign, Log}
+use Rattle.hs_program.specs.declared.damage.Damage.TheVariants.{Log, Invalid}
 use Rattle.hs_program.specs.declared.opening.Opening.{Opening}
 use Rattle.hs_program.specs.declared.status.Status.{Status}
-use Rattle.hs_program.specs.declared.status.Status.TheVariants.{Done, Usage, DiskFault, NoMemory, Damaged, InputTooLong}
-use Rattle.hs_program.specs.Ahead.{ahead, all_told, told_within, texts_from, ended_with, shown}
+use Rattle.hs_program.specs.declared.status.Status.TheVariants.{Done, DiskFault, NoMemory, Damaged, InputTooLong}
+use Rattle.hs_program.specs.Ahead.{ahead, all_told, told_within, texts_from, ended_with}
 use Rattle.hs_program.specs.Crash.{IsQuiet, IsKept, IsSafe, Survives}
+use Rattle.hs_program.specs.Damaged.{IsDamagedAt}
+use Rattle.hs_program.specs.Lawful.{IsSound}
 use Rattle.hs_program.specs.Meaning.{Meaning, Opened, nothing_logged}
-use Rattle.hs_program.specs.Opening.{IsReached, given, opened_of, texts_at}
-use Rattle.hs_program.specs.Stop.{is_damaged}
+use Rattle.hs_program.specs.Opening.{AreRedone, IsInvalid, IsOpened, texts_at}
+use Rattle.hs_program.specs.Stop.{TellsDamage, is_damaged}
 
--- An engine stands for what the texts that were left of a log give.
+-- The texts that were left of a log make this, and each was whole.
+abbrev pub AllMade : Meaning → LogReader → List ℕ → Opened → Type 0
+AllMade m r log opened = AreRedone m (nothing_logged m) (left_in r log) opened × (is_broken log ≡ false)
+
+-- They make what violates this constraint, as the first.
+pub record MakeInvalid (m : Meaning) (r : LogReader) (log name : List ℕ) : Type 0 where
+  pub opened : Opened
+  pub made : AllMade m r log opened
+  pub violates : m.violated opened ≡ Some name
+
+-- An engine stands for what they make, with which a run may begin.
 pub record Redoes {E H : Type 0} (m : Meaning) (stands_for : E → Opened → Type 0) (s : source.Ghosts H) (g : host.Ghosts H) (r : LogReader) (old : H) (engine : E) : Type 0 where
   pub opened : Opened
   pub stands : stands_for engine opened
-  pub reached : IsReached m opened
-  pub is : Told s g old → given m (is_broken (g.files old).log) (left_in r (g.files old).log) ≡ Ok opened
+  pub sound : IsSound m opened
+  pub is : Told s g old → AllMade m r (g.files old).log opened
 
 -- A log was opened: an engine stands for what it gives, and the log, with the same commits, is kept as it is, also on the disk.
 pub record Opens {E H : Type 0} (m : Meaning) (stands_for : E → Opened → Type 0) (s : source.Ghosts H) (g : host.Ghosts H) (old new : H) (o : Opening E) : Type 0 where
   pub opened : Opened
   pub stands : stands_for o.engine opened
-  pub reached : IsReached m opened
-  pub is : Told s g old → opened_of m (g.files old).log ≡ Ok opened
+  pub sound : IsSound m opened
+  pub is : Told s g old → IsOpened m (g.files old).log opened
   pub host : IsOpen (g.standing new)
   pub epoch : epoch_in o.log ≡ 1
   pub log : Told s g new → IsLog (g.history new) (g.files new) o.log
@@ -45,18 +57,24 @@ HasLog log status = (is_born log ≡ true) ⊎ ((status ≡ DiskFault → ⊥) �
 -- A run over an honest host that tells its bytes, from these files, input, output and moments on: what it wrote, what stands in the
 -- files, which moments were passed, and what it ends with.
 pub record Runs (m : Meaning) (files : Five (List ℕ)) (input before : List ℕ) (start : History) (after : Five (List ℕ)) (out : List ℕ) (now : History) (status : Status) : Type 0 where
-  pub front : WritesPrefix before out (shown m files.log input)
-  pub done : (opened : Opened) → opened_of m files.log ≡ Ok opened → status ≡ Done → out ≡ before ++ all_told (ahead m files.log opened) input
-  pub before_too_long : (opened : Opened) → opened_of m files.log ≡ Ok opened → status ≡ InputTooLong → out ≡ before ++ told_within (2 ^ 30) (ahead m files.log opened) input
-  pub log : (opened : Opened) → opened_of m files.log ≡ Ok opened → status ≡ Done → IsWholeLog 1 (texts_at files.log ++ texts_from (ahead m files.log opened) input) after.log
-  pub reopens : (opened : Opened) → opened_of m files.log ≡ Ok opened → status ≡ Done → opened_of m after.log ≡ Ok (ended_with m files.log opened input)
+  pub front : (opened : Opened) → IsOpened m files.log opened → WritesPrefix before out (all_told (ahead m files.log opened) input)
+  pub opened_first : (¬ (out ≡ before)) ⊎ ((status ≡ Done) ⊎ (status ≡ InputTooLong)) → (opened : Opened) × IsOpened m files.log opened
+  pub done : (opened : Opened) → IsOpened m files.log opened → status ≡ Done → out ≡ before ++ all_told (ahead m files.log opened) input
+  pub before_too_long : (opened : Opened) → IsOpened m files.log opened → status ≡ InputTooLong → out ≡ before ++ told_within (2 ^ 30) (ahead m files.log opened) input
+  pub log : (opened : Opened) → IsOpened m files.log opened → status ≡ Done → IsWholeLog 1 (texts_at files.log ++ texts_from (ahead m files.log opened) input) after.log
+  pub reopens : (opened : Opened) → IsOpened m files.log opened → status ≡ Done → IsOpened m after.log (ended_with m files.log opened input)
   pub others : OnlyLog files after
-  pub crash : IsQuiet files start.now → (opened : Opened) → opened_of m files.log ≡ Ok opened → Since (IsKept m files opened input before start.now) start now
-  pub safe : IsQuiet files start.now → (opened : Opened) → opened_of m files.log ≡ Ok opened → HasLog files.log status → IsSafe m files.log opened input before now.now
-  pub left : IsQuiet files start.now → (opened : Opened) → opened_of m files.log ≡ Ok opened → HasLog files.log status → Survives m files.log opened input before out after.log
+  pub crash : IsQuiet files start.now → (opened : Opened) → IsOpened m files.log opened → Since (IsKept m files opened input before start.now) start now
+  pub safe : IsQuiet files start.now → (opened : Opened) → IsOpened m files.log opened → HasLog files.log status → IsSafe m files.log opened input before now.now
+  pub left : IsQuiet files start.now → (opened : Opened) → IsOpened m files.log opened → HasLog files.log status → Survives m files.log opened input before out after.log
   pub begun : is_born files.log ≡ false → (is_born after.log ≡ false) ⊎ Survives m files.log (nothing_logged m) input before out after.log
   pub alone : IsQuiet files start.now → Since (IsLater start.now) start now
-  pub damaged : (number : ℕ) → status ≡ Damaged (Log number) → opened_of m files.log ≡ Err number
-  pub damage : (number : ℕ) → opened_of m files.log ≡ Err number → (status ≡ Usage) ⊎ ((status ≡ Damaged Foreign) ⊎ ((status ≡ Damaged (Log number)) ⊎ ((status ≡ DiskFault) ⊎ (status ≡ NoMemory))))
+  pub damaged : (number : ℕ) → status ≡ Damaged (Log number) → IsDamagedAt m files.log number
+  pub damage : (number : ℕ) → IsDamagedAt m files.log number → TellsDamage (Log number) status
+  pub damaged_silent : (number : ℕ) → IsDamagedAt m files.log number → out ≡ before
+  pub damaged_kept : (number : ℕ) → IsDamagedAt m files.log number → after ≡ files
+  pub invalid : (name : List ℕ) → status ≡ Damaged (Invalid name) → IsInvalid m files.log name
+  pub violation : (name : List ℕ) → IsInvalid m files.log name → TellsDamage (Invalid name) status
+  pub invalid_silent : (name : List ℕ) → IsInvalid m files.log name → out ≡ before
+  pub invalid_kept : (name : List ℕ) → IsInvalid m files.log name → after ≡ files
   pub kept : is_damaged status ≡ true → after ≡ files
-  pub damaged_kept : (number : ℕ) → opened_of m files.log ≡ Err number → after ≡ files

@@ -1,5 +1,5 @@
 -- How a run ends, and for which causes.
-use Rattle.std.specs.Prelude.{◌≡◌, ℕ, Bool, true, false}
+use Rattle.std.specs.Prelude.{◌≡◌, ◌⊎◌, ℕ, Bool, true, false}
 use Rattle.hs_host.specs.declared.source.Source as source
 use Rattle.hs_host.specs.declared.host.Host as host
 use Rattle.hs_host.specs.Host.{Rose}
@@ -9,7 +9,8 @@ use Rattle.hs_log.specs.declared.log_fault.LogFault.TheVariants as log
 use Rattle.hs_run.specs.Stop.{NoFaults}
 use Rattle.hs_run.specs.declared.stop.Stop.{Stop}
 use Rattle.hs_run.specs.declared.stop.Stop.TheVariants as stop
-use Rattle.hs_program.specs.declared.damage.Damage.TheVariants.{Foreign, Log}
+use Rattle.hs_program.specs.declared.damage.Damage.{Damage}
+use Rattle.hs_program.specs.declared.damage.Damage.TheVariants.{Foreign, Log, Invalid}
 use Rattle.hs_program.specs.declared.fault.OpenFault.{OpenFault}
 use Rattle.hs_program.specs.declared.fault.OpenFault.TheVariants as fault
 use Rattle.hs_program.specs.declared.status.Status.{Status}
@@ -47,6 +48,7 @@ fault_of log.NoMemory = fault.NoMemory
 abbrev pub unopened : OpenFault → Status
 unopened fault.Disk = DiskFault
 unopened (fault.Damaged number) = Damaged (Log number)
+unopened (fault.Invalid name) = Damaged (Invalid name)
 unopened fault.NoMemory = NoMemory
 
 abbrev pub stopped : Stop → Status
@@ -56,10 +58,16 @@ stopped stop.Disk = DiskFault
 stopped stop.NoMemory = NoMemory
 stopped stop.TooLong = InputTooLong
 
+-- A run over a log with this damage tells it, unless it came not so far: the words aren't those of the command, the files are those of
+-- another program, the disk failed, or memory was wanted.
+abbrev pub TellsDamage : Damage → Status → Type 0
+TellsDamage damage status = (status ≡ Usage) ⊎ ((status ≡ Damaged Foreign) ⊎ ((status ≡ Damaged damage) ⊎ ((status ≡ DiskFault) ⊎ (status ≡ NoMemory))))
+
 -- A log isn't opened for a fault of the files alone, for a damage, or for want of memory.
 abbrev pub OpenStops : {H : Type 0} → source.Ghosts H → host.Ghosts H → H → H → OpenFault → Type 0
 OpenStops s g old new fault.Disk = Rose (g.disk_faults old) (g.disk_faults new)
 OpenStops s g old new (fault.Damaged number) = NoFaults s g old new
+OpenStops s g old new (fault.Invalid name) = NoFaults s g old new
 OpenStops s g old new fault.NoMemory = NoFaults s g old new
 
 -- nothing was written, and nothing read
@@ -85,4 +93,5 @@ Ends s g old new DiskFault = Rose (g.disk_faults old) (g.disk_faults new)
 Ends s g old new NoMemory = NoFaults s g old new
 Ends s g old new (Damaged Foreign) = FindsForeign s g old new
 Ends s g old new (Damaged (Log number)) = NoFaults s g old new × IsSilent s g old new
+Ends s g old new (Damaged (Invalid name)) = NoFaults s g old new × IsSilent s g old new
 Ends s g old new InputTooLong = NoFaults s g old new

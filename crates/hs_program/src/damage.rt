@@ -1,7 +1,8 @@
 // What is wrong with the files of a database.
+use hs_values::Name;
 
-/// What is wrong with the files of a database. With `Log` it is so over a host that reads honestly, and then, as with
-/// `Foreign` over each host, nothing of them was changed.
+/// What is wrong with the files of a database. With `Log` and `Invalid` it is so over a host that reads honestly,
+/// and then, as with `Foreign` over each host, nothing of them was changed.
 #[derive(Debug, PartialEq, Eq, Drop)]
 pub enum Damage {
     /// They are those of another program: `.properties` stands beside them.
@@ -10,4 +11,6 @@ pub enum Damage {
     /// a commit that can't be made on the database so far. It is 0 where the log was born and isn't open, or
     /// its epoch isn't 1.
     Log(u64),
+    /// All commits of the log can be made again, and what they make violates this constraint, as the first.
+    Invalid(Name),
 }

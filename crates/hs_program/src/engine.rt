@@ -1,9 +1,10 @@
 // What makes commits again and takes turns.
-ghost use Rattle.std.specs.Prelude.{◌≡◌, ◌<◌, ◌^◌, Some, None, true, false, IfOk};
-ghost use Rattle.hs_program.specs.Lawful.{IsLawful, IsStanding};
+ghost use Rattle.std.specs.Prelude.{◌≡◌, ◌<◌, ◌^◌, true, false, IfOk};
+ghost use Rattle.hs_program.specs.Lawful.{IsLawful, IsReady, IsStanding};
 ghost use Rattle.hs_program.specs.Meaning.{Meaning, Opened, nothing_logged};
 
 use hs_run::Turns;
+use hs_values::Name;
 use std::alloc::{AllocError, Global};
 
 /// What a database is to a run: it makes commits again from their texts, and then takes turns.
@@ -29,14 +30,19 @@ pub trait Engine {
     /// want of memory, nothing is known of this.
     fn redo(&mut self, text: &[u8]) -> Result<bool, AllocError>
         requires stands { (standing : IsStanding meaning stands_for self.old) × (standing.opened.commits < 2 ^ 63) }
-        ensures made { IfOk result (λ made. made ≡ true → (opened : Opened) → stands_for self.old opened → (next : Opened) × ((meaning.redone opened text.now ≡ Some next) × stands_for self.new next)) }
-        ensures none { IfOk result (λ made. made ≡ false → (opened : Opened) → stands_for self.old opened → meaning.redone opened text.now ≡ None) };
+        ensures made { IfOk result (λ made. made ≡ true → (opened : Opened) → stands_for self.old opened → (next : Opened) × (meaning.Redone opened text.now next × stands_for self.new next)) }
+        ensures none { IfOk result (λ made. made ≡ false → (opened : Opened) → stands_for self.old opened → (next : Opened) → ¬ (meaning.Redone opened text.now next)) };
 
-    /// What takes turns over it, where the log has so many bytes before the one that ends it. Takes no memory.
+    /// The name of the first constraint that it violates, and none where it violates none. An `Err` is want of memory.
+    fn judge(&self) -> Result<Option<Name>, AllocError>
+        requires stands { IsStanding meaning stands_for self.now }
+        ensures { (opened : Opened) → stands_for self.now opened → IfOk result (λ name. name ≡ meaning.violated opened) };
+
+    /// What takes turns over it, where no constraint is violated and the log has so many bytes before the one that ends it. Takes no memory.
     fn turns(self, size: u64) -> Self::Work
-        requires stands { IsStanding meaning stands_for self }
+        requires ready { IsReady meaning stands_for self }
         ensures ahead { (opened : Opened) → stands_for self opened → Self.Work.has_ahead result (meaning.future opened size) };
 
-    /// What is told of commits is true, and what is made can be made again.
+    /// What is told of commits is true, and what is made can be made again and violates no constraint.
     ghost lawful: { IsLawful meaning };
 }

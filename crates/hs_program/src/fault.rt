@@ -1,15 +1,18 @@
 // Why a log can't be opened.
 
 use hs_log::LogFault;
+use hs_values::Name;
 use std::alloc::AllocError;
 
 /// Why a log can't be opened.
-#[derive(Clone, Copy, Debug, PartialEq, Eq)]
+#[derive(Debug, PartialEq, Eq, Drop)]
 pub enum OpenFault {
     /// A call on the files of the database failed.
     Disk,
     /// This group of the log is damaged, or its header where it is 0.
     Damaged(u64),
+    /// What the log makes violates this constraint.
+    Invalid(Name),
     /// Memory was refused.
     NoMemory,
 }

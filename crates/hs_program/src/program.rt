@@ -1,5 +1,5 @@
 // The top call.
-ghost use Rattle.std.specs.Prelude.{◌≡◌, ◌⊎◌, ◌↔◌, ℕ, ◌^◌, ◌<◌, ◌≤◌, [], ◌++◌, true, false, None, Some, Ok, Err, length, OnOk, IfErr};
+ghost use Rattle.std.specs.Prelude.{◌≡◌, ◌⊎◌, ◌↔◌, ℕ, ◌^◌, ◌<◌, ◌≤◌, [], ◌++◌, true, false, None, Some, length, List, OnOk, IfErr};
 ghost use Rattle.hs_host.specs.Host.{Rose};
 ghost use Rattle.hs_host.specs.Files.{IsUnnamed, IsOpen, IsForeign, IsHonest};
 ghost use Rattle.hs_host.specs.Moments.{Since};
@@ -8,12 +8,13 @@ ghost use Rattle.hs_log.specs.Log.{IsWholeLog, is_born};
 ghost use Rattle.hs_run.specs.Crash.{IsLater, OnlyLog};
 ghost use Rattle.hs_run.specs.Holding.{WritesPrefix};
 ghost use Rattle.hs_run.specs.Stop.{NoFaults};
-ghost use Rattle.hs_program.specs.Ahead.{ahead, all_told, told_within, texts_from, ended_with, shown};
+ghost use Rattle.hs_program.specs.Ahead.{ahead, all_told, told_within, texts_from, ended_with};
 ghost use Rattle.hs_program.specs.Command.{database_of};
 ghost use Rattle.hs_program.specs.Crash.{IsQuiet, IsSafe, IsKept, Survives};
+ghost use Rattle.hs_program.specs.Damaged.{IsDamagedAt};
 ghost use Rattle.hs_program.specs.Meaning.{Opened, nothing_logged};
 ghost use Rattle.hs_program.specs.Mounting.{Mounts};
-ghost use Rattle.hs_program.specs.Opening.{opened_of, texts_at};
+ghost use Rattle.hs_program.specs.Opening.{IsInvalid, IsOpened, texts_at};
 ghost use Rattle.hs_program.specs.Run.{HasLog, Runs};
 ghost use Rattle.hs_program.specs.Stop.{Ends, is_damaged};
 
@@ -34,7 +35,8 @@ use std::alloc::Global;
 /// The status says how the run ended and why. Over a host that tells its bytes and is honest: whatever it is, what was
 /// written is a prefix of the transcript over the commits of the log. At `Done` the input was read to its end, all of the
 /// transcript was written, the log's groups are the texts of all commits, and the next run begins with the database with which
-/// this one ended. Over a damaged log nothing is written and no file is changed, whatever the status is.
+/// this one ended. Over a damaged log, and over one whose commits make what violates a constraint, nothing is written and no file is
+/// changed, whatever the status is.
 ///
 /// Where the log was all on the disk at the call, a crash at any moment of the run leaves a log that has the commits
 /// that were found and the first so many of those that this run makes, and the next run begins with what these made. It has
@@ -51,22 +53,23 @@ pub fn run_over<H: Host, E: Engine + Drop>(alloc: Global, words: &Words, host: &
     ensures name { (result ≡ Status.Usage → ⊥) → (result ≡ Status.NoMemory → ⊥) → (H.standing host.new).name ≡ database_of words.now }
 
     // What is written.
-    ensures front { H.tells → IsHonest (H.standing host.old) → WritesPrefix (H.written host.old) (H.written host.new) (shown E.meaning (H.files host.old).log (H.unread host.old)) }
-    ensures done { H.tells → IsHonest (H.standing host.old) → (opened : Opened) → opened_of E.meaning (H.files host.old).log ≡ Ok opened → result ≡ Status.Done → H.written host.new ≡ H.written host.old ++ all_told (ahead E.meaning (H.files host.old).log opened) (H.unread host.old) }
+    ensures front { H.tells → IsHonest (H.standing host.old) → (opened : Opened) → IsOpened E.meaning (H.files host.old).log opened → WritesPrefix (H.written host.old) (H.written host.new) (all_told (ahead E.meaning (H.files host.old).log opened) (H.unread host.old)) }
+    ensures opened_first { H.tells → IsHonest (H.standing host.old) → (¬ (H.written host.new ≡ H.written host.old)) ⊎ ((result ≡ Status.Done) ⊎ (result ≡ Status.InputTooLong)) → (opened : Opened) × IsOpened E.meaning (H.files host.old).log opened }
+    ensures done { H.tells → IsHonest (H.standing host.old) → (opened : Opened) → IsOpened E.meaning (H.files host.old).log opened → result ≡ Status.Done → H.written host.new ≡ H.written host.old ++ all_told (ahead E.meaning (H.files host.old).log opened) (H.unread host.old) }
     ensures read { H.tells → result ≡ Status.Done → H.unread host.new ≡ [] }
     ensures done_within { H.tells → result ≡ Status.Done → length (H.unread host.old) ≤ 2 ^ 30 }
     ensures too_long { H.tells → result ≡ Status.InputTooLong → 2 ^ 30 < length (H.unread host.old) }
-    ensures before_too_long { H.tells → IsHonest (H.standing host.old) → (opened : Opened) → opened_of E.meaning (H.files host.old).log ≡ Ok opened → result ≡ Status.InputTooLong → H.written host.new ≡ H.written host.old ++ told_within (2 ^ 30) (ahead E.meaning (H.files host.old).log opened) (H.unread host.old) }
+    ensures before_too_long { H.tells → IsHonest (H.standing host.old) → (opened : Opened) → IsOpened E.meaning (H.files host.old).log opened → result ≡ Status.InputTooLong → H.written host.new ≡ H.written host.old ++ told_within (2 ^ 30) (ahead E.meaning (H.files host.old).log opened) (H.unread host.old) }
 
     // What is logged.
-    ensures log { H.tells → IsHonest (H.standing host.old) → (opened : Opened) → opened_of E.meaning (H.files host.old).log ≡ Ok opened → result ≡ Status.Done → IsWholeLog 1 (texts_at (H.files host.old).log ++ texts_from (ahead E.meaning (H.files host.old).log opened) (H.unread host.old)) (H.files host.new).log }
-    ensures reopens { H.tells → IsHonest (H.standing host.old) → (opened : Opened) → opened_of E.meaning (H.files host.old).log ≡ Ok opened → result ≡ Status.Done → opened_of E.meaning (H.files host.new).log ≡ Ok (ended_with E.meaning (H.files host.old).log opened (H.unread host.old)) }
+    ensures log { H.tells → IsHonest (H.standing host.old) → (opened : Opened) → IsOpened E.meaning (H.files host.old).log opened → result ≡ Status.Done → IsWholeLog 1 (texts_at (H.files host.old).log ++ texts_from (ahead E.meaning (H.files host.old).log opened) (H.unread host.old)) (H.files host.new).log }
+    ensures reopens { H.tells → IsHonest (H.standing host.old) → (opened : Opened) → IsOpened E.meaning (H.files host.old).log opened → result ≡ Status.Done → IsOpened E.meaning (H.files host.new).log (ended_with E.meaning (H.files host.old).log opened (H.unread host.old)) }
     ensures others { H.tells → IsHonest (H.standing host.old) → OnlyLog (H.files host.old) (H.files host.new) }
 
     // What a crash leaves, at each moment of the run.
-    ensures crash { H.tells → IsHonest (H.standing host.old) → IsQuiet (H.files host.old) (H.history host.old).now → (opened : Opened) → opened_of E.meaning (H.files host.old).log ≡ Ok opened → Since (IsKept E.meaning (H.files host.old) opened (H.unread host.old) (H.written host.old) (H.history host.old).now) (H.history host.old) (H.history host.new) }
-    ensures safe { H.tells → IsHonest (H.standing host.old) → IsQuiet (H.files host.old) (H.history host.old).now → (opened : Opened) → opened_of E.meaning (H.files host.old).log ≡ Ok opened → HasLog (H.files host.old).log result → IsSafe E.meaning (H.files host.old).log opened (H.unread host.old) (H.written host.old) (H.history host.new).now }
-    ensures left { H.tells → IsHonest (H.standing host.old) → IsQuiet (H.files host.old) (H.history host.old).now → (opened : Opened) → opened_of E.meaning (H.files host.old).log ≡ Ok opened → HasLog (H.files host.old).log result → Survives E.meaning (H.files host.old).log opened (H.unread host.old) (H.written host.old) (H.written host.new) (H.files host.new).log }
+    ensures crash { H.tells → IsHonest (H.standing host.old) → IsQuiet (H.files host.old) (H.history host.old).now → (opened : Opened) → IsOpened E.meaning (H.files host.old).log opened → Since (IsKept E.meaning (H.files host.old) opened (H.unread host.old) (H.written host.old) (H.history host.old).now) (H.history host.old) (H.history host.new) }
+    ensures safe { H.tells → IsHonest (H.standing host.old) → IsQuiet (H.files host.old) (H.history host.old).now → (opened : Opened) → IsOpened E.meaning (H.files host.old).log opened → HasLog (H.files host.old).log result → IsSafe E.meaning (H.files host.old).log opened (H.unread host.old) (H.written host.old) (H.history host.new).now }
+    ensures left { H.tells → IsHonest (H.standing host.old) → IsQuiet (H.files host.old) (H.history host.old).now → (opened : Opened) → IsOpened E.meaning (H.files host.old).log opened → HasLog (H.files host.old).log result → Survives E.meaning (H.files host.old).log opened (H.unread host.old) (H.written host.old) (H.written host.new) (H.files host.new).log }
     ensures begun { H.tells → IsHonest (H.standing host.old) → is_born (H.files host.old).log ≡ false → (is_born (H.files host.new).log ≡ false) ⊎ Survives E.meaning (H.files host.old).log (nothing_logged E.meaning) (H.unread host.old) (H.written host.old) (H.written host.new) (H.files host.new).log }
     ensures alone { H.tells → IsHonest (H.standing host.old) → IsQuiet (H.files host.old) (H.history host.old).now → Since (IsLater (H.history host.old).now) (H.history host.old) (H.history host.new) }
 
@@ -76,20 +79,26 @@ pub fn run_over<H: Host, E: Engine + Drop>(alloc: Global, words: &Words, host: &
     ensures disk_fault { result ≡ Status.DiskFault → Rose (H.disk_faults host.old) (H.disk_faults host.new) }
     ensures no_fault { (result ≡ Status.InputFault → ⊥) → (result ≡ Status.OutputFault → ⊥) → (result ≡ Status.DiskFault → ⊥) → NoFaults H.Source H.Host.own host.old host.new }
 
-    // Damaged files.
+    // Damaged files, and a log that makes what violates a constraint.
     ensures foreign { H.tells → result ≡ Status.Damaged Damage.Foreign → IsForeign (H.standing host.old) }
     ensures own { H.tells → IsForeign (H.standing host.old) → (result ≡ Status.Usage) ⊎ ((result ≡ Status.Damaged Damage.Foreign) ⊎ ((result ≡ Status.DiskFault) ⊎ (result ≡ Status.NoMemory))) }
     ensures foreign_kept { H.tells → result ≡ Status.Damaged Damage.Foreign → H.files host.new ≡ H.files host.old }
-    ensures damaged { H.tells → IsHonest (H.standing host.old) → (number : ℕ) → result ≡ Status.Damaged (Damage.Log number) → opened_of E.meaning (H.files host.old).log ≡ Err number }
-    ensures damage { H.tells → IsHonest (H.standing host.old) → (number : ℕ) → opened_of E.meaning (H.files host.old).log ≡ Err number → (result ≡ Status.Usage) ⊎ ((result ≡ Status.Damaged Damage.Foreign) ⊎ ((result ≡ Status.Damaged (Damage.Log number)) ⊎ ((result ≡ Status.DiskFault) ⊎ (result ≡ Status.NoMemory)))) }
+    ensures damaged { H.tells → IsHonest (H.standing host.old) → (number : ℕ) → result ≡ Status.Damaged (Damage.Log number) → IsDamagedAt E.meaning (H.files host.old).log number }
+    ensures damage { H.tells → IsHonest (H.standing host.old) → (number : ℕ) → IsDamagedAt E.meaning (H.files host.old).log number → (result ≡ Status.Usage) ⊎ ((result ≡ Status.Damaged Damage.Foreign) ⊎ ((result ≡ Status.Damaged (Damage.Log number)) ⊎ ((result ≡ Status.DiskFault) ⊎ (result ≡ Status.NoMemory)))) }
     ensures silent { is_damaged result ≡ true → (H.written host.new ≡ H.written host.old) × (H.unread host.new ≡ H.unread host.old) }
     ensures kept { H.tells → IsHonest (H.standing host.old) → is_damaged result ≡ true → H.files host.new ≡ H.files host.old }
-    ensures damaged_kept { H.tells → IsHonest (H.standing host.old) → (number : ℕ) → opened_of E.meaning (H.files host.old).log ≡ Err number → H.files host.new ≡ H.files host.old }
+    ensures damaged_kept { H.tells → IsHonest (H.standing host.old) → (number : ℕ) → IsDamagedAt E.meaning (H.files host.old).log number → H.files host.new ≡ H.files host.old }
+    ensures damaged_silent { H.tells → IsHonest (H.standing host.old) → (number : ℕ) → IsDamagedAt E.meaning (H.files host.old).log number → H.written host.new ≡ H.written host.old }
+    ensures invalid { H.tells → IsHonest (H.standing host.old) → (name : List ℕ) → result ≡ Status.Damaged (Damage.Invalid name) → IsInvalid E.meaning (H.files host.old).log name }
+    ensures violation { H.tells → IsHonest (H.standing host.old) → (name : List ℕ) → IsInvalid E.meaning (H.files host.old).log name → (result ≡ Status.Usage) ⊎ ((result ≡ Status.Damaged Damage.Foreign) ⊎ ((result ≡ Status.Damaged (Damage.Invalid name)) ⊎ ((result ≡ Status.DiskFault) ⊎ (result ≡ Status.NoMemory)))) }
+    ensures invalid_kept { H.tells → IsHonest (H.standing host.old) → (name : List ℕ) → IsInvalid E.meaning (H.files host.old).log name → H.files host.new ≡ H.files host.old }
+    ensures invalid_silent { H.tells → IsHonest (H.standing host.old) → (name : List ℕ) → IsInvalid E.meaning (H.files host.old).log name → H.written host.new ≡ H.written host.old }
 
     // Where no device fails, each run ends as it is to end, or for want of memory.
-    ensures complete { H.tells → IsHonest (H.standing host.old) → (IsForeign (H.standing host.old) → ⊥) → (database_of words.now ≡ None → ⊥) → (Rose (H.input_faults host.old) (H.input_faults host.new) → ⊥) → (Rose (H.output_faults host.old) (H.output_faults host.new) → ⊥) → (Rose (H.disk_faults host.old) (H.disk_faults host.new) → ⊥) → (opened : Opened) → opened_of E.meaning (H.files host.old).log ≡ Ok opened → length (H.unread host.old) ≤ 2 ^ 30 → (result ≡ Status.Done) ⊎ (result ≡ Status.NoMemory) }
-    ensures complete_too_long { H.tells → IsHonest (H.standing host.old) → (IsForeign (H.standing host.old) → ⊥) → (database_of words.now ≡ None → ⊥) → (Rose (H.input_faults host.old) (H.input_faults host.new) → ⊥) → (Rose (H.output_faults host.old) (H.output_faults host.new) → ⊥) → (Rose (H.disk_faults host.old) (H.disk_faults host.new) → ⊥) → (opened : Opened) → opened_of E.meaning (H.files host.old).log ≡ Ok opened → 2 ^ 30 < length (H.unread host.old) → (result ≡ Status.InputTooLong) ⊎ (result ≡ Status.NoMemory) }
-    ensures complete_damaged { H.tells → IsHonest (H.standing host.old) → (IsForeign (H.standing host.old) → ⊥) → (database_of words.now ≡ None → ⊥) → (Rose (H.disk_faults host.old) (H.disk_faults host.new) → ⊥) → (number : ℕ) → opened_of E.meaning (H.files host.old).log ≡ Err number → (result ≡ Status.Damaged (Damage.Log number)) ⊎ (result ≡ Status.NoMemory) }
+    ensures complete { H.tells → IsHonest (H.standing host.old) → (IsForeign (H.standing host.old) → ⊥) → (database_of words.now ≡ None → ⊥) → (Rose (H.input_faults host.old) (H.input_faults host.new) → ⊥) → (Rose (H.output_faults host.old) (H.output_faults host.new) → ⊥) → (Rose (H.disk_faults host.old) (H.disk_faults host.new) → ⊥) → (opened : Opened) → IsOpened E.meaning (H.files host.old).log opened → length (H.unread host.old) ≤ 2 ^ 30 → (result ≡ Status.Done) ⊎ (result ≡ Status.NoMemory) }
+    ensures complete_too_long { H.tells → IsHonest (H.standing host.old) → (IsForeign (H.standing host.old) → ⊥) → (database_of words.now ≡ None → ⊥) → (Rose (H.input_faults host.old) (H.input_faults host.new) → ⊥) → (Rose (H.output_faults host.old) (H.output_faults host.new) → ⊥) → (Rose (H.disk_faults host.old) (H.disk_faults host.new) → ⊥) → (opened : Opened) → IsOpened E.meaning (H.files host.old).log opened → 2 ^ 30 < length (H.unread host.old) → (result ≡ Status.InputTooLong) ⊎ (result ≡ Status.NoMemory) }
+    ensures complete_damaged { H.tells → IsHonest (H.standing host.old) → (IsForeign (H.standing host.old) → ⊥) → (database_of words.now ≡ None → ⊥) → (Rose (H.disk_faults host.old) (H.disk_faults host.new) → ⊥) → (number : ℕ) → IsDamagedAt E.meaning (H.files host.old).log number → (result ≡ Status.Damaged (Damage.Log number)) ⊎ (result ≡ Status.NoMemory) }
+    ensures complete_invalid { H.tells → IsHonest (H.standing host.old) → (IsForeign (H.standing host.old) → ⊥) → (database_of words.now ≡ None → ⊥) → (Rose (H.disk_faults host.old) (H.disk_faults host.new) → ⊥) → (name : List ℕ) → IsInvalid E.meaning (H.files host.old).log name → (result ≡ Status.Damaged (Damage.Invalid name)) ⊎ (result ≡ Status.NoMemory) }
 {
     let Some(name) = database_of(words) else {
         return Status::Usage;

@@ -59,6 +59,7 @@ impl From<OpenFault> for Status {
         match fault {
             OpenFault::Disk => Status::DiskFault,
             OpenFault::Damaged(group) => Status::Damaged(Damage::Log(group)),
+            OpenFault::Invalid(name) => Status::Damaged(Damage::Invalid(name)),
             OpenFault::NoMemory => Status::NoMemory,
         }
     }

@@ -1,5 +1,5 @@
 -- A database that counts its commits.
-use Rattle.std.specs.Prelude.{ℕ, ◌+◌, List, [], length, Option, Some}
+use Rattle.std.specs.Prelude.{◌≡◌, ℕ, ◌+◌, ◌==◌, nat_le, Bool, List, [], length, Option, None, Some, codes, if◌then◌else◌}
 use Rattle.std.specs.FinMap.{empty}
 use Rattle.hs_ast.specs.declared.session.Isolation.TheVariants.{ReadCommitted}
 use Rattle.hs_claims.specs.declared.model.ControlKind.TheVariants.{Locks}
@@ -9,20 +9,29 @@ use Rattle.hs_run.specs.Running.{pieces}
 use Rattle.hs_run_tests.specs.Silent.{silent_future}
 use Rattle.hs_program.specs.Meaning.{Meaning, Opened}
 
-abbrev pub no_tables : Database
-no_tables = record { things = []; rows = λ table. empty; count = 0; control = Locks; level = ReadCommitted }
+-- a database that tells alone whether a text was too long: its count then isn't 0
+abbrev pub with_count : ℕ → Database
+with_count count = record { things = []; rows = λ table. empty; count = count; control = Locks; level = ReadCommitted }
+
+abbrev pub is_short : List ℕ → Bool
+is_short text = nat_le (length text) 65536
 
 abbrev pub with_commits : ℕ → Opened → Opened
 with_commits more opened = record opened { commits = opened.commits + more }
 
 -- each text is a commit
-abbrev pub counted : Opened → List ℕ → Option Opened
-counted opened text = Some (with_commits 1 opened)
+abbrev pub counted : Opened → List ℕ → Opened
+counted opened text = record { database = if is_short text then opened.database else with_count 1; last = opened.last; commits = opened.commits + 1 }
+
+-- a long one violates a constraint
+abbrev pub short_violated : Opened → Option (List ℕ)
+short_violated opened = if opened.database.count == 0 then None else Some (codes "SHORT")
 
 abbrev pub tallied : Meaning
 tallied = record {
-  empty = no_tables;
-  redone = counted;
+  empty = with_count 0;
+  Redone = λ opened text next. next ≡ counted opened text;
+  violated = short_violated;
   future = λ opened size. silent_future opened.commits;
   ended = λ opened size items. with_commits (length (made_by (pieces (silent_future opened.commits) items))) opened;
 }

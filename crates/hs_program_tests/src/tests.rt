@@ -6,7 +6,7 @@ use crate::tally::Tally;
 use hs_host::{FileKind, Host};
 use hs_memhost::{CallList, Images, MemHost};
 use hs_program::{Damage, Status, run_over};
-use hs_values::{Bytes, Chars, Words};
+use hs_values::{Bytes, Chars, Name, Words};
 use std::alloc::{AllocError, Global};
 use std::test::Fail;
 
@@ -19,6 +19,9 @@ const LOGGED: &[u8] =
 // A log whose second text isn't whole.
 const DAMAGED: &[u8] =
     b"\x01\x01\0\0\0\0\0\0\0\x01\x01\0\0\0\0\0\0\0\x05 ONE;\x01\0\0\0\0\0\0\0\x05 TW";
+
+// A log's header, and the length of a text that is longer than each that an entry makes.
+const LONG_BEGINS: &[u8] = b"\x01\x01\0\0\0\0\0\0\0\x01\x01\0\0\0\0\0\x01\0\x01";
 
 const FIRST_TOLD: &[u8] = b"opened at 0\nclosed at 2\n";
 
@@ -71,6 +74,26 @@ fn other_words_and_a_damaged_log_are_told(rt: HostRuntime) -> Result<(), Fail> {
     );
     assert!(rt; first.output().is_empty());
     assert_eq!(rt; first.image(FileKind::Log), DAMAGED);
+    Ok(())
+}
+
+#[test]
+fn a_log_that_makes_what_is_invalid_is_told(rt: HostRuntime) -> Result<(), Fail> {
+    let alloc = rt.alloc();
+    let mut log = LONG_BEGINS.to_vec(alloc)?;
+    for _ in 0..65_537 {
+        log.push(b'x')?;
+    }
+    log.push(0)?;
+    let mut first = host(alloc, INPUT, log.as_slice(), &[])?;
+    let words = words(alloc, &["hsql", "demo"])?;
+    let name = Name::from_text(alloc, "SHORT")?;
+    assert!(rt;
+        run_over::<MemHost, Tally>(alloc, &words, &mut first)
+            == Status::Damaged(Damage::Invalid(name))
+    );
+    assert!(rt; first.output().is_empty());
+    assert_eq!(rt; first.image(FileKind::Log), log.as_slice());
     Ok(())
 }
 

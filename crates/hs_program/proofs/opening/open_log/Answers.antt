@@ -1,4 +1,4 @@
-use Rattle.std.proofs.Common.{◌≡◌, ℕ, List, false, [], Ok, refl, sym, ap, subst, ◌∙◌}
+use Rattle.std.proofs.Common.{◌≡◌, ℕ, List, false, [], refl, sym, ap, subst, ◌∙◌}
 use Rattle.hs_host.specs.Files.{Five}
 use Rattle.hs_host.specs.Used.{Told}
 use Rattle.hs_host.proofs.Used.{told_on}
@@ -7,7 +7,8 @@ use Rattle.hs_log.specs.LogReading.{IsBegun, IsNew}
 use Rattle.hs_run.specs.Stop.{NoFaults}
 use Rattle.hs_run.proofs.Stops.{disk_calm, no_faults_on}
 use Rattle.hs_program.specs.Meaning.{nothing_logged}
-use Rattle.hs_program.specs.Opening.{opened_of, texts_at}
+use Rattle.hs_program.specs.Damaged.{IsDamagedAt}
+use Rattle.hs_program.specs.Opening.{IsInvalid, IsOpened, texts_at}
 use Rattle.hs_program.specs.Run.{Opens}
 use Rattle.hs_program.specs.Stop.{OpenStops, fault_of}
 use Rattle.hs_program.proofs.Alone.{alone_behind, opens_alone}
@@ -28,8 +29,8 @@ returns-in-New-clause-opens g c =
     record {
       opened = nothing_logged g.E.Engine.meaning;
       stands = c.new.ensures;
-      reached = ([], refl);
-      is = λ told. unborn_gives g.E.Engine.meaning (g.H.Host.files c.args.host.now).log (opens.0 told);
+      sound = record { reached = ([], refl); valid = g.met.E.Engine.lawful.starts };
+      is = λ told. unborn_gives g.E.Engine.meaning g.met.E.Engine.lawful (g.H.Host.files c.args.host.now).log (opens.0 told);
       host = opens.1.opened;
       epoch = opens.1.epoch;
       log = opens.1.log;
@@ -79,10 +80,34 @@ returns-in-Born-clause-opens g c =
     (λ o opens. record {
       opened = opens.opened;
       stands = opens.stands;
-      reached = opens.reached;
-      is = λ told. subst (λ (f : Five (List ℕ)). opened_of m f.log ≡ Ok opens.opened) (reads.files told) (opens.is (told_on reads.uses told));
+      sound = opens.sound;
+      is = λ told. subst (λ (f : Five (List ℕ)). IsOpened m f.log opens.opened) (reads.files told) (opens.is (told_on reads.uses told));
       host = opens.host;
       epoch = opens.epoch;
       log = opens.log;
       texts = λ told. opens.texts (told_on reads.uses told) ∙ ap (λ (f : Five (List ℕ)). texts_at f.log) (reads.files told);
     }) c.read_log.ensures.opens
+
+-- what is so of the log that is read was so of the log before
+pub returns-in-Born-clause-damaged : goal.returns-in-Born-clause-damaged
+returns-in-Born-clause-damaged g c = λ told number is.
+    let begun : IsBegun g.H.Source g.H.Host c.args.host.now c.open.new.host c.in-Born.reader = rw c.in-Born.is at c.in_ok-log.ensures.opens in
+    let same = begun.reads.files told in
+    let found = c.read_log.ensures.damaged (told_on begun.reads.uses told) number is in
+    (subst (λ (f : Five (List ℕ)). IsDamagedAt g.E.Engine.meaning f.log number) same found.0, found.1 ∙ same)
+
+pub returns-in-Born-clause-invalid : goal.returns-in-Born-clause-invalid
+returns-in-Born-clause-invalid g c = λ told name is.
+    let begun : IsBegun g.H.Source g.H.Host c.args.host.now c.open.new.host c.in-Born.reader = rw c.in-Born.is at c.in_ok-log.ensures.opens in
+    let same = begun.reads.files told in
+    let found = c.read_log.ensures.invalid (told_on begun.reads.uses told) name is in
+    (subst (λ (f : Five (List ℕ)). IsInvalid g.E.Engine.meaning f.log name) same found.0, found.1 ∙ same)
+
+pub returns-in-Born-clause-kept : goal.returns-in-Born-clause-kept
+returns-in-Born-clause-kept g c = λ told.
+    let begun : IsBegun g.H.Source g.H.Host c.args.host.now c.open.new.host c.in-Born.reader = rw c.in-Born.is at c.in_ok-log.ensures.opens in
+    let same = begun.reads.files told in
+    let kept = c.read_log.ensures.kept (told_on begun.reads.uses told) in (
+      λ number is. kept.0 number (subst (λ (f : Five (List ℕ)). IsDamagedAt g.E.Engine.meaning f.log number) (sym same) is) ∙ same,
+      λ name is. kept.1 name (subst (λ (f : Five (List ℕ)). IsInvalid g.E.Engine.meaning f.log name) (sym same) is) ∙ same,
+    )

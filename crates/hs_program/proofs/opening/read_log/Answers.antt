@@ -1,4 +1,4 @@
-use Rattle.std.proofs.Common.{◌≡◌, List, ℕ, Ok, Err, sym, ap, subst, ◌∙◌}
+use Rattle.std.proofs.Common.{◌≡◌, List, ℕ, Err, inr, sym, ap, subst, ◌∙◌}
 use Rattle.hs_host.specs.Files.{IsOpen}
 use Rattle.hs_host.specs.Used.{Told}
 use Rattle.hs_host.proofs.Used.{told_back, told_on}
@@ -6,37 +6,68 @@ use Rattle.hs_host.specs.Files.{Five}
 use Rattle.hs_log.specs.Log.{is_broken, texts_of}
 use Rattle.hs_run.specs.Stop.{NoFaults}
 use Rattle.hs_run.proofs.Stops.{disk_calm, no_faults_on}
-use Rattle.hs_program.specs.declared.fault.OpenFault.TheVariants.{Damaged}
-use Rattle.hs_program.specs.Opening.{given, opened_of}
+use Rattle.hs_program.specs.declared.fault.OpenFault.TheVariants.{Damaged, Invalid}
+use Rattle.hs_program.specs.Damaged.{IsDamagedAt, IsFirstDamage}
+use Rattle.hs_program.specs.Meaning.{Opened, nothing_logged}
+use Rattle.hs_program.specs.Opening.{AreRedone, IsInvalid, IsMade, IsOpened}
+use Rattle.hs_program.specs.Run.{AllMade}
 use Rattle.hs_program.specs.Stop.{OpenStops, fault_of}
 use Rattle.hs_program.proofs.Alone.{alone_behind, changes_alone, reads_alone}
 use Rattle.hs_program.proofs.Openings.{still_opening, settle_opening}
-use Rattle.hs_program.proofs.Replayed.{born_texts, damaged_never, opened_is}
+use Rattle.hs_program.proofs.Damaged.{opened_undamaged, opened_valid}
+use Rattle.hs_program.proofs.Replayed.{born_texts, made_of}
 use Rattle.hs_program.proofs.Stops.{ends_by, open_open, settle_open}
 use Rattle.hs_program.proofs.opening.read_log.Goals as goal
-use Rattle.hs_program.proofs.opening.read_log.Goals.{After-settle}
+use Rattle.hs_program.proofs.opening.read_log.Goals.{After-redo_all, After-settle}
+
+-- its texts are those that are left
+these : (g : _) (c : After-redo_all g) (told : Told g.H.Source g.H.Host c.args.host.now) (opened : Opened)
+    → AllMade g.E.Engine.meaning c.args.reader (g.H.Host.files c.args.host.now).log opened → IsMade g.E.Engine.meaning (g.H.Host.files c.args.host.now).log opened
+these g c told opened all =
+    let m = g.E.Engine.meaning in
+    let begun = c.requires.begun told in
+    made_of m (g.H.Host.files c.args.host.now).log opened (c.requires.reading.born told) begun.0 all.1 (subst (λ ts. AreRedone m (nothing_logged m) ts opened) begun.1 all.0)
 
 -- what the log gives
-gives : (g : _) (c : After-settle g) → Told g.H.Source g.H.Host c.args.host.now → opened_of g.E.Engine.meaning (g.H.Host.files c.args.host.now).log ≡ Ok c.in-Ok.ensures.redoes.opened
+gives : (g : _) (c : After-settle g) → Told g.H.Source g.H.Host c.args.host.now → IsOpened g.E.Engine.meaning (g.H.Host.files c.args.host.now).log c.in-Ok.ensures.redoes.opened
 gives g c told =
+    let r = c.in-Ok.ensures.redoes in
+    record { made = these g (goal.at.After-settle g c).After-redo_all told r.opened (r.is told); valid = r.sound.valid }
+
+-- it is neither damaged nor invalid
+never : (g : _) (c : After-settle g) → Told g.H.Source g.H.Host c.args.host.now → {A : Type 0}
+    → ((number : ℕ) → IsDamagedAt g.E.Engine.meaning (g.H.Host.files c.args.host.now).log number → A) × ((name : List ℕ) → IsInvalid g.E.Engine.meaning (g.H.Host.files c.args.host.now).log name → A)
+never g c told =
+    let m = g.E.Engine.meaning in
+    let law = g.met.E.Engine.lawful in
     let log = (g.H.Host.files c.args.host.now).log in
-    opened_is g.E.Engine.meaning log (c.requires.reading.born told) (c.requires.begun told).0
-    ∙ ap (λ (ts : List (List ℕ)). given g.E.Engine.meaning (is_broken log) ts) (sym (c.requires.begun told).1)
-    ∙ c.in-Ok.ensures.redoes.is told
+    let opened = c.in-Ok.ensures.redoes.opened in
+    let is = gives g c told in
+    (λ number damaged. absurd (opened_undamaged m law log opened number is damaged), λ name invalid. absurd (opened_valid m law log name opened is invalid))
 
 pub returns-in-Err-clause-damaged : goal.returns-in-Err-clause-damaged
 returns-in-Err-clause-damaged g c = λ told number is.
+    let m = g.E.Engine.meaning in
     let log = (g.H.Host.files c.args.host.now).log in
     let why : c.in-Err.fault ≡ Damaged number = cc in
-    opened_is g.E.Engine.meaning log (c.requires.reading.born told) (c.requires.begun told).0
-    ∙ ap (λ (ts : List (List ℕ)). given g.E.Engine.meaning (is_broken log) ts) (sym (c.requires.begun told).1)
-    ∙ c.in-Err.ensures.damaged told number (ap Err why)
+    let begun = c.requires.begun told in (
+      record {
+        born = c.requires.reading.born told;
+        damage = inr (begun.0, subst (λ ts. IsFirstDamage m ts (is_broken log) number) begun.1 (c.in-Err.ensures.damaged told number (ap Err why)));
+      },
+      c.redo_all.ensures.reads.files told,
+    )
 
-pub returns-in-Err-clause-untouched : goal.returns-in-Err-clause-untouched
-returns-in-Err-clause-untouched g c = λ told number is. c.redo_all.ensures.reads.files told
+pub returns-in-Err-clause-invalid : goal.returns-in-Err-clause-invalid
+returns-in-Err-clause-invalid g c = λ told name is.
+    let why : c.in-Err.fault ≡ Invalid name = cc in
+    let made = c.in-Err.ensures.invalid told name (ap Err why) in (
+      record { opened = made.opened; made = these g (goal.at.returns-in-Err-clause-invalid g c).After-redo_all told made.opened made.made; violates = made.violates },
+      c.redo_all.ensures.reads.files told,
+    )
 
 pub returns-in-Err-clause-kept : goal.returns-in-Err-clause-kept
-returns-in-Err-clause-kept g c = λ told number is. c.redo_all.ensures.reads.files told
+returns-in-Err-clause-kept g c = λ told. (λ number is. c.redo_all.ensures.reads.files told, λ name is. c.redo_all.ensures.reads.files told)
 
 pub returns-in-Err-clause-moments : goal.returns-in-Err-clause-moments
 returns-in-Err-clause-moments g c = λ told quiet. still_opening g.E.Engine.meaning _ quiet (c.redo_all.ensures.reads.moments told)
@@ -45,8 +76,7 @@ pub returns-in-Err-clause-moves : goal.returns-in-Err-clause-moves
 returns-in-Err-clause-moves g c = reads_alone c.redo_all.ensures.reads
 
 pub returns-in_err-log-clause-kept : goal.returns-in_err-log-clause-kept
-returns-in_err-log-clause-kept g c = λ told number is.
-    absurd (damaged_never _ number (sym (gives g (goal.at.returns-in_err-log-clause-kept g c).After-settle told) ∙ is))
+returns-in_err-log-clause-kept g c = λ told. never g (goal.at.returns-in_err-log-clause-kept g c).After-settle told
 
 pub returns-in_err-log-clause-moments : goal.returns-in_err-log-clause-moments
 returns-in_err-log-clause-moments g c = λ told quiet.
@@ -73,7 +103,7 @@ returns-clause-opens g c =
     record {
       opened = r.opened;
       stands = r.stands;
-      reached = r.reached;
+      sound = r.sound;
       is = gives g (goal.at.returns-clause-opens g c).After-settle;
       host = subst IsOpen (sym (changes.uses.standing ∙ reads.uses.standing)) c.requires.reading.opened;
       epoch = log.epoch;
@@ -84,8 +114,7 @@ returns-clause-opens g c =
     }
 
 pub returns-clause-kept : goal.returns-clause-kept
-returns-clause-kept g c = λ told number is.
-    absurd (damaged_never _ number (sym (gives g (goal.at.returns-clause-kept g c).After-settle told) ∙ is))
+returns-clause-kept g c = λ told. never g (goal.at.returns-clause-kept g c).After-settle told
 
 pub returns-clause-moments : goal.returns-clause-moments
 returns-clause-moments g c = λ told quiet.

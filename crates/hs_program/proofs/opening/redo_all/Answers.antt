@@ -1,4 +1,4 @@
-use Rattle.std.proofs.Common.{◌≡◌, ℕ, ◌+◌, ◌*◌, ◌^◌, ◌<◌, ◌≤◌, true, false, rules, List, [], ◌∷◌, Err, sym, ap, subst, ◌∙◌, arith}
+use Rattle.std.proofs.Common.{◌≡◌, ℕ, ◌+◌, ◌*◌, ◌^◌, ◌<◌, ◌≤◌, true, false, rules, List, [], ◌∷◌, Option, Some, Err, sym, ap, subst, ◌∙◌, arith}
 use Rattle.hs_host.specs.Files.{Five}
 use Rattle.hs_host.specs.Used.{ReadsFiles, Told}
 use Rattle.hs_host.proofs.Used.{told_on, reads_on}
@@ -11,10 +11,10 @@ use Rattle.hs_run.proofs.Stops.{disk_calm, no_faults, no_faults_on}
 use Rattle.hs_program.specs.declared.fault.OpenFault.TheVariants.{NoMemory}
 use Rattle.hs_program.specs.Stop.{OpenStops, fault_of}
 use Rattle.hs_program.proofs.Alone.{reads_none}
-use Rattle.hs_program.proofs.Replaying.{replaying_breaks, replaying_ends, replaying_first, replaying_on, replaying_stops, standing}
-use Rattle.hs_program.proofs.Stops.{damaged_from, ends_by, log_open, open_open}
+use Rattle.hs_program.proofs.Replaying.{replaying_breaks, replaying_ends, replaying_first, replaying_on, replaying_stops, replaying_violates, so_many, standing}
+use Rattle.hs_program.proofs.Stops.{damaged_from, ends_by, invalid_never, log_open, open_open}
 use Rattle.hs_program.proofs.opening.redo_all.Goals as goal
-use Rattle.hs_program.proofs.opening.redo_all.Goals.{After-advance, After-text}
+use Rattle.hs_program.proofs.opening.redo_all.Goals.{After-advance, After-judge, After-text}
 
 reads : (g : _) (c : After-advance g) → ReadsFiles g.H.Source g.H.Host c.args.host.now c.advance.new.host
 reads g c = reads_on c.loop-engine.invariant.reads c.advance.ensures.reads
@@ -28,8 +28,14 @@ returns-in_err-redo-clause-reads g c = reads g (goal.at.returns-in_err-redo-clau
 pub returns-then-not-branch-clause-reads : goal.returns-then-not-branch-clause-reads
 returns-then-not-branch-clause-reads g c = reads g (goal.at.returns-then-not-branch-clause-reads g c).After-advance
 
-pub returns-clause-reads : goal.returns-clause-reads
-returns-clause-reads g c = reads g (goal.at.returns-clause-reads g c).After-advance
+pub returns-in_err-name-clause-reads : goal.returns-in_err-name-clause-reads
+returns-in_err-name-clause-reads g c = reads g (goal.at.returns-in_err-name-clause-reads g c).After-advance
+
+pub returns-in-Some-clause-reads : goal.returns-in-Some-clause-reads
+returns-in-Some-clause-reads g c = reads g (goal.at.returns-in-Some-clause-reads g c).After-advance
+
+pub returns-in-None-clause-reads : goal.returns-in-None-clause-reads
+returns-in-None-clause-reads g c = reads g (goal.at.returns-in-None-clause-reads g c).After-advance
 
 pub returns-in_err-advance-clause-stops : goal.returns-in_err-advance-clause-stops
 returns-in_err-advance-clause-stops g c =
@@ -47,8 +53,8 @@ returns-in_err-redo-clause-stops g c =
 pub returns-then-not-branch-clause-stops : goal.returns-then-not-branch-clause-stops
 returns-then-not-branch-clause-stops g c = no_faults_on c.loop-engine.invariant.calm (disk_calm c.advance.ensures.reads.uses c.in_ok-advance.ensures.cause)
 
-pub returns-clause-stops : goal.returns-clause-stops
-returns-clause-stops g c = no_faults_on c.loop-engine.invariant.calm (disk_calm c.advance.ensures.reads.uses c.in_ok-advance.ensures.cause)
+pub returns-in-None-clause-stops : goal.returns-in-None-clause-stops
+returns-in-None-clause-stops g c = no_faults_on c.loop-engine.invariant.calm (disk_calm c.advance.ensures.reads.uses c.in_ok-advance.ensures.cause)
 
 pub returns-in_err-advance-clause-damaged : goal.returns-in_err-advance-clause-damaged
 returns-in_err-advance-clause-damaged g c = λ told number is.
@@ -59,8 +65,11 @@ returns-in_err-advance-clause-damaged g c = λ told number is.
     let here = c.in_err-advance.ensures.broken later number (ap Err why) in
     let none : left_in c.loop-engine.reader log ≡ [] = subst (λ (f : Five (List ℕ)). left_in c.loop-engine.reader f.log ≡ []) same here.none in
     let breaks : is_broken log ≡ true = subst (λ (f : Five (List ℕ)). is_broken f.log ≡ true) same here.broken in
-    replaying_breaks g.E.Engine.meaning g.E.Engine.stands_for g.H.Source g.H.Host c.args.reader.now c.args.host.now c.loop-engine.reader c.loop-engine.engine c.loop-engine.invariant.replaying number g.met.E.Engine.lawful
+    replaying_breaks g.E.Engine.meaning g.E.Engine.stands_for g.H.Source g.H.Host c.args.reader.now c.args.host.now c.loop-engine.reader c.loop-engine.engine c.loop-engine.invariant.replaying number
     (c.in_err-advance.ensures.number number (ap Err why)) told none breaks
+
+pub returns-in_err-advance-clause-invalid : goal.returns-in_err-advance-clause-invalid
+returns-in_err-advance-clause-invalid g c = λ told name is. invalid_never c.from_residual.result c.in_err-advance.field-0.0 name c.from_residual.ensures.1 is
 
 -- the text that was read
 next : (g : _) (c : After-text g) → (told : Told g.H.Source g.H.Host c.args.host.now)
@@ -103,20 +112,37 @@ loop-engine-preserved g c =
       reads = reads g (goal.at.loop-engine-preserved g c).After-advance;
       calm = no_faults_on c.loop-engine.invariant.calm (disk_calm c.advance.ensures.reads.uses c.in_ok-advance.ensures.cause);
       replaying = replaying_on g.E.Engine.meaning g.E.Engine.stands_for g.H.Source g.H.Host c.args.reader.now c.args.host.now c.loop-engine.reader c.loop-engine.engine r
-          c.advance.new.self c.redo.new.self c.text.result.now made.0 made.1.0 made.1.1 g.met.E.Engine.lawful goes.0 (next g (goal.at.loop-engine-preserved g c).After-text);
+          c.advance.new.self c.redo.new.self c.text.result.now made.0 made.1.0 made.1.1 goes.0 (next g (goal.at.loop-engine-preserved g c).After-text);
     }
 
-pub returns-clause-redoes : goal.returns-clause-redoes
-returns-clause-redoes g c =
-    replaying_ends g.E.Engine.meaning g.E.Engine.stands_for g.H.Source g.H.Host c.args.reader.now c.args.host.now c.loop-engine.reader c.loop-engine.engine c.loop-engine.invariant.replaying
-    λ told.
+abbrev some : List ℕ → Option (List ℕ)
+some name = Some name
+
+-- no text is left, and all are whole
+ended : (g : _) (c : After-judge g) → Told g.H.Source g.H.Host c.args.host.now → (left_in c.loop-engine.reader (g.H.Host.files c.args.host.now).log ≡ []) × (is_broken (g.H.Host.files c.args.host.now).log ≡ false)
+ended g c told =
     let later = told_on c.loop-engine.invariant.reads.uses told in
     let same = c.loop-engine.invariant.reads.files told in
     let takes : TakesText (g.H.Host.files c.loop-engine.host).log c.loop-engine.reader false c.advance.new.self = rw c.if-branch.false at c.in_ok-advance.ensures.takes later in
     subst (λ (f : Five (List ℕ)). TakesText f.log c.loop-engine.reader false c.advance.new.self) same takes
 
-pub returns-clause-whole : goal.returns-clause-whole
-returns-clause-whole g c = λ told.
+pub returns-in-None-clause-redoes : goal.returns-in-None-clause-redoes
+returns-in-None-clause-redoes g c =
+    let r = c.loop-engine.invariant.replaying in
+    let judged = c.in_ok-name.ensures r.opened r.stands in
+    replaying_ends g.E.Engine.meaning g.E.Engine.stands_for g.H.Source g.H.Host c.args.reader.now c.args.host.now c.loop-engine.reader c.loop-engine.engine r (sym judged ∙ c.in-None.is)
+    (ended g (goal.at.returns-in-None-clause-redoes g c).After-judge)
+
+pub returns-in-Some-clause-invalid : goal.returns-in-Some-clause-invalid
+returns-in-Some-clause-invalid g c = λ told name is.
+    let r = c.loop-engine.invariant.replaying in
+    let judged = c.in_ok-name.ensures r.opened r.stands in
+    let same : c.in-Some.name ≡ name = cc in
+    replaying_violates g.E.Engine.meaning g.E.Engine.stands_for g.H.Source g.H.Host c.args.reader.now c.args.host.now c.loop-engine.reader c.loop-engine.engine r name (sym judged ∙ c.in-Some.is ∙ ap some same) told
+    (ended g (goal.at.returns-in-Some-clause-invalid g c).After-judge told)
+
+pub returns-in-None-clause-whole : goal.returns-in-None-clause-whole
+returns-in-None-clause-whole g c = λ told.
     let later = told_on c.loop-engine.invariant.reads.uses told in
     let same = c.advance.ensures.reads.files later in
     let takes : TakesText (g.H.Host.files c.loop-engine.host).log c.loop-engine.reader false c.advance.new.self = rw c.if-branch.false at c.in_ok-advance.ensures.takes later in
@@ -141,6 +167,12 @@ redo-requires g c =
     record {
       stands = (
         standing g.E.Engine.meaning g.E.Engine.stands_for g.H.Source g.H.Host c.args.reader.now c.args.host.now c.loop-engine.reader c.loop-engine.engine r,
-        omega (arith, r.counted, few g (goal.at.redo-requires g c).After-text),
+        omega (arith, so_many g.E.Engine.meaning g.E.Engine.stands_for g.H.Source g.H.Host c.args.reader.now c.args.host.now c.loop-engine.reader c.loop-engine.engine r g.met.E.Engine.lawful, few g (goal.at.redo-requires g c).After-text),
       );
+    }
+
+pub judge-requires : goal.judge-requires
+judge-requires g c =
+    record {
+      stands = standing g.E.Engine.meaning g.E.Engine.stands_for g.H.Source g.H.Host c.args.reader.now c.args.host.now c.loop-engine.reader c.loop-engine.engine c.loop-engine.invariant.replaying;
     }

@@ -1,7 +1,9 @@
 use Rattle.std.proofs.Common.{inr, refl}
 use Rattle.hs_host.specs.Used.{Told}
+use Rattle.hs_program.specs.declared.damage.Damage.TheVariants.{Log, Invalid}
 use Rattle.hs_program.specs.declared.status.Status.TheVariants.{Usage}
 use Rattle.hs_program.specs.Run.{Runs}
+use Rattle.hs_program.proofs.Damaged.{opened_undamaged, opened_valid}
 use Rattle.hs_program.proofs.Stops.{calm_by, complete_as, complete_damaged_as, complete_long_as, foreign_by, foreign_kept, silent_by}
 use Rattle.hs_program.proofs.Worked.{idle_runs}
 use Rattle.hs_program.proofs.program.run_over.Goals as goal
@@ -14,7 +16,7 @@ idle : (g : _) (c : In_default g) → Told g.H.Source g.H.Host c.args.host.now
     (g.H.Host.history c.args.host.now) Usage
 idle g c told =
     let host = c.args.host.now in
-    idle_runs g.E.Engine.meaning (g.H.Host.files host) (g.H.Source.unread host) (g.H.Host.written host) (g.H.Host.history host) (g.met.H.Host.output_now host told.tells) Usage refl
+    idle_runs g.E.Engine.meaning g.met.E.Engine.lawful (g.H.Host.files host) (g.H.Source.unread host) (g.H.Host.written host) (g.H.Host.history host) (g.met.H.Host.output_now host told.tells) Usage refl
 
 pub returns-in_default-clause-front : goal.returns-in_default-clause-front
 returns-in_default-clause-front g c = λ tells honest. (idle g (goal.at.returns-in_default-clause-front g c).In_default (record { tells = tells; honest = honest })).front
@@ -61,6 +63,24 @@ returns-in_default-clause-kept g c = λ tells honest. (idle g (goal.at.returns-i
 pub returns-in_default-clause-damaged_kept : goal.returns-in_default-clause-damaged_kept
 returns-in_default-clause-damaged_kept g c = λ tells honest. (idle g (goal.at.returns-in_default-clause-damaged_kept g c).In_default (record { tells = tells; honest = honest })).damaged_kept
 
+pub returns-in_default-clause-opened_first : goal.returns-in_default-clause-opened_first
+returns-in_default-clause-opened_first g c = λ tells honest. (idle g (goal.at.returns-in_default-clause-opened_first g c).In_default (record { tells = tells; honest = honest })).opened_first
+
+pub returns-in_default-clause-damaged_silent : goal.returns-in_default-clause-damaged_silent
+returns-in_default-clause-damaged_silent g c = λ tells honest. (idle g (goal.at.returns-in_default-clause-damaged_silent g c).In_default (record { tells = tells; honest = honest })).damaged_silent
+
+pub returns-in_default-clause-invalid : goal.returns-in_default-clause-invalid
+returns-in_default-clause-invalid g c = λ tells honest. (idle g (goal.at.returns-in_default-clause-invalid g c).In_default (record { tells = tells; honest = honest })).invalid
+
+pub returns-in_default-clause-violation : goal.returns-in_default-clause-violation
+returns-in_default-clause-violation g c = λ tells honest. (idle g (goal.at.returns-in_default-clause-violation g c).In_default (record { tells = tells; honest = honest })).violation
+
+pub returns-in_default-clause-invalid_silent : goal.returns-in_default-clause-invalid_silent
+returns-in_default-clause-invalid_silent g c = λ tells honest. (idle g (goal.at.returns-in_default-clause-invalid_silent g c).In_default (record { tells = tells; honest = honest })).invalid_silent
+
+pub returns-in_default-clause-invalid_kept : goal.returns-in_default-clause-invalid_kept
+returns-in_default-clause-invalid_kept g c = λ tells honest. (idle g (goal.at.returns-in_default-clause-invalid_kept g c).In_default (record { tells = tells; honest = honest })).invalid_kept
+
 pub returns-clause-front : goal.returns-clause-front
 returns-clause-front g c = λ tells honest. (c.serve.ensures.runs (record { tells = tells; honest = honest })).front
 
@@ -106,6 +126,24 @@ returns-clause-kept g c = λ tells honest. (c.serve.ensures.runs (record { tells
 pub returns-clause-damaged_kept : goal.returns-clause-damaged_kept
 returns-clause-damaged_kept g c = λ tells honest. (c.serve.ensures.runs (record { tells = tells; honest = honest })).damaged_kept
 
+pub returns-clause-opened_first : goal.returns-clause-opened_first
+returns-clause-opened_first g c = λ tells honest. (c.serve.ensures.runs (record { tells = tells; honest = honest })).opened_first
+
+pub returns-clause-damaged_silent : goal.returns-clause-damaged_silent
+returns-clause-damaged_silent g c = λ tells honest. (c.serve.ensures.runs (record { tells = tells; honest = honest })).damaged_silent
+
+pub returns-clause-invalid : goal.returns-clause-invalid
+returns-clause-invalid g c = λ tells honest. (c.serve.ensures.runs (record { tells = tells; honest = honest })).invalid
+
+pub returns-clause-violation : goal.returns-clause-violation
+returns-clause-violation g c = λ tells honest. (c.serve.ensures.runs (record { tells = tells; honest = honest })).violation
+
+pub returns-clause-invalid_silent : goal.returns-clause-invalid_silent
+returns-clause-invalid_silent g c = λ tells honest. (c.serve.ensures.runs (record { tells = tells; honest = honest })).invalid_silent
+
+pub returns-clause-invalid_kept : goal.returns-clause-invalid_kept
+returns-clause-invalid_kept g c = λ tells honest. (c.serve.ensures.runs (record { tells = tells; honest = honest })).invalid_kept
+
 -- ---- what it read, and how it ended
 
 pub returns-clause-read : goal.returns-clause-read
@@ -141,14 +179,30 @@ returns-clause-silent g c = λ damaged. let silent = silent_by g.H.Source g.H.Ho
 -- where no device fails
 pub returns-clause-complete : goal.returns-clause-complete
 returns-clause-complete g c = λ tells honest own words input output disk opened is short.
+    let m = g.E.Engine.meaning in
+    let law = g.met.E.Engine.lawful in
+    let log = (g.H.Host.files c.args.host.now).log in
+    let runs = c.serve.ensures.runs (record { tells = tells; honest = honest }) in
     complete_as g.H.Source g.H.Host c.serve.result c.args.host.now c.serve.new.host c.serve.ensures.ends tells own input output disk
-    (c.serve.ensures.runs (record { tells = tells; honest = honest })).damaged (c.serve.ensures.too_long tells) opened is short
+    (λ number damaged. opened_undamaged m law log opened number is (runs.damaged number damaged))
+    (λ name invalid. opened_valid m law log name opened is (runs.invalid name invalid)) (c.serve.ensures.too_long tells) short
 
 pub returns-clause-complete_too_long : goal.returns-clause-complete_too_long
 returns-clause-complete_too_long g c = λ tells honest own words input output disk opened is long.
+    let m = g.E.Engine.meaning in
+    let law = g.met.E.Engine.lawful in
+    let log = (g.H.Host.files c.args.host.now).log in
+    let runs = c.serve.ensures.runs (record { tells = tells; honest = honest }) in
     complete_long_as g.H.Source g.H.Host c.serve.result c.args.host.now c.serve.new.host c.serve.ensures.ends tells own input output disk
-    (c.serve.ensures.runs (record { tells = tells; honest = honest })).damaged (λ done. (c.serve.ensures.read tells done).1) opened is long
+    (λ number damaged. opened_undamaged m law log opened number is (runs.damaged number damaged))
+    (λ name invalid. opened_valid m law log name opened is (runs.invalid name invalid)) (λ done. (c.serve.ensures.read tells done).1) long
 
 pub returns-clause-complete_damaged : goal.returns-clause-complete_damaged
 returns-clause-complete_damaged g c = λ tells honest own words disk number is.
-    complete_damaged_as g.H.Source g.H.Host c.serve.result c.args.host.now c.serve.new.host c.serve.ensures.ends tells own disk number ((c.serve.ensures.runs (record { tells = tells; honest = honest })).damage number is)
+    complete_damaged_as g.H.Source g.H.Host c.serve.result c.args.host.now c.serve.new.host c.serve.ensures.ends tells own disk (Log number)
+    ((c.serve.ensures.runs (record { tells = tells; honest = honest })).damage number is)
+
+pub returns-clause-complete_invalid : goal.returns-clause-complete_invalid
+returns-clause-complete_invalid g c = λ tells honest own words disk name is.
+    complete_damaged_as g.H.Source g.H.Host c.serve.result c.args.host.now c.serve.new.host c.serve.ensures.ends tells own disk (Invalid name)
+    ((c.serve.ensures.runs (record { tells = tells; honest = honest })).violation name is)

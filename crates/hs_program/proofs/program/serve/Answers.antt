@@ -21,7 +21,7 @@ returns-in-Err-clause-runs g c = λ told.
     let status = c.in-Err.status in
     runs_to m (g.H.Host.files old) (g.H.Source.unread old) (g.H.Host.written old) (g.H.Host.history old) (g.H.Host.files old) (g.H.Host.files new) (g.H.Host.written old) (g.H.Host.written new) (g.H.Host.history old) (g.H.Host.history new) status
     (mounts.files told.tells) mounts.written (mounts.history told.tells)
-    (idle_runs m (g.H.Host.files old) (g.H.Source.unread old) (g.H.Host.written old) (g.H.Host.history old) (g.met.H.Host.output_now old told.tells) status (mount_idle g.H.Source g.H.Host status old new c.in-Err.ensures.mounts.stops))
+    (idle_runs m g.met.E.Engine.lawful (g.H.Host.files old) (g.H.Source.unread old) (g.H.Host.written old) (g.H.Host.history old) (g.met.H.Host.output_now old told.tells) status (mount_idle g.H.Source g.H.Host status old new c.in-Err.ensures.mounts.stops))
 
 pub returns-in-Err-clause-read : goal.returns-in-Err-clause-read
 returns-in-Err-clause-read g c = λ tells done.

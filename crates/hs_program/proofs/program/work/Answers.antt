@@ -14,7 +14,7 @@ use Rattle.hs_program.specs.Meaning.{nothing_logged}
 use Rattle.hs_program.specs.Opening.{size_at, texts_at}
 use Rattle.hs_program.specs.Run.{Runs}
 use Rattle.hs_program.specs.Stop.{is_damaged, stopped}
-use Rattle.hs_program.proofs.Replayed.{counted, old_gives}
+use Rattle.hs_program.proofs.Replayed.{counted}
 use Rattle.hs_program.proofs.Safe.{size_is}
 use Rattle.hs_program.proofs.Stops.{stopped_ends, unopened_ends}
 use Rattle.hs_program.proofs.Worked.{Turned, stopped_done, stopped_long, stopped_whole, turned_from, turned_runs, unopened_done, unopened_long, unopened_own, unopened_runs}
@@ -32,10 +32,10 @@ returns-in-Err-clause-runs g c = λ told.
     let err = c.in-Err.ensures in
     let after = told_on moves.uses told in
     subst (λ (status : Status). Runs m (g.H.Host.files old) (g.H.Source.unread old) (g.H.Host.written old) (g.H.Host.history old) (g.H.Host.files new) (g.H.Host.written new) (g.H.Host.history new) status) (sym c.from.ensures)
-    (unopened_runs m (g.H.Host.files old) (g.H.Source.unread old) (g.H.Host.written old) (g.H.Host.history old) (g.met.H.Host.output_now old told.tells)
+    (unopened_runs m g.met.E.Engine.lawful (g.H.Host.files old) (g.H.Source.unread old) (g.H.Host.written old) (g.H.Host.history old) (g.met.H.Host.output_now old told.tells)
     (g.H.Host.files new) (g.H.Host.written new) (g.H.Host.history new) (g.met.H.Host.output_now new told.tells) (g.met.H.Host.read_may_be_left new told.tells after.honest Log)
     c.in-Err.fault moves.uses.written (moves.others told) (c.open_log.ensures.moments told) (moves.moments told)
-    (λ number is. err.damaged told number (ap Err is)) (λ number is. err.untouched told number (ap Err is)) (c.open_log.ensures.kept told) (err.begun told))
+    (λ number is. err.damaged told number (ap Err is)) (λ name is. err.invalid told name (ap Err is)) (c.open_log.ensures.kept told) (err.begun told))
 
 pub returns-in-Err-clause-read : goal.returns-in-Err-clause-read
 returns-in-Err-clause-read g c = λ tells done. absurd (unopened_done c.in-Err.fault (sym c.from.ensures ∙ done))
@@ -54,7 +54,7 @@ returns-in-Err-clause-own g c = λ is. unopened_own c.in-Err.fault (sym c.from.e
 -- ---- turns are taken
 
 pub turns-turns-requires : goal.turns-turns-requires
-turns-turns-requires g c = let o = c.in-Ok.ensures.opens in record { stands = record { opened = o.opened; stands = o.stands; reached = o.reached } }
+turns-turns-requires g c = let o = c.in-Ok.ensures.opens in record { ready = record { opened = o.opened; stands = o.stands; sound = o.sound } }
 
 -- what is ahead
 abbrev future : (g : _) (c : After-turns-turns g) → Future
@@ -70,11 +70,11 @@ begins g c =
       opened = o.host;
       epoch = o.epoch;
       kept = o.log;
-      is_true = law.is_true o.opened c.size-size.result o.reached;
+      is_true = law.is_true o.opened c.size-size.result o.sound;
       counted = λ told.
           let before = told_back c.open_log.ensures.moves.uses told in
           let old = (g.H.Host.files c.args.host.now).log in
-          let many = counted m law (texts_at old) (nothing_logged m) o.opened (old_gives m old o.opened (o.is before)) in
+          let many = counted m law (texts_at old) (nothing_logged m) o.opened (o.is before).made.made in
           let texts : length (texts_in (g.H.Host.files c.open_log.new.host)) ≡ length (texts_at old) = ap length (o.texts before) in
           let begun = law.begins o.opened c.size-size.result in
           omega (arith, many, texts, begun);
@@ -111,9 +111,9 @@ runs g c told status turned =
     let o = c.in-Ok.ensures.opens in
     let later = told_on moves.uses told in
     let honest = subst IsHonest (sym c.take_turns.ensures.ends.uses.all.standing) later.honest in
-    turned_runs m (g.H.Host.files old) (g.H.Source.unread old) (g.H.Host.written old) (g.H.Host.history old) (g.met.H.Host.output_now old told.tells)
+    turned_runs m g.met.E.Engine.lawful (g.H.Host.files old) (g.H.Source.unread old) (g.H.Host.written old) (g.H.Host.history old) (g.met.H.Host.output_now old told.tells)
     (g.H.Host.files new) (g.H.Host.written new) (g.H.Host.history new) (g.met.H.Host.output_now new told.tells) (g.met.H.Host.read_may_be_left new told.tells honest Log)
-    g.met.E.Engine.lawful o.opened (o.is told) (g.H.Host.history here) (g.H.Host.files here) c.in-Ok.opening.log (o.log later) o.epoch (o.texts told)
+    o.opened (o.is told) (g.H.Host.history here) (g.H.Host.files here) c.in-Ok.opening.log (o.log later) o.epoch (o.texts told)
     (g.met.H.Host.output_now here told.tells ∙ moves.uses.written) (moves.others told) (c.open_log.ensures.moments told) (moves.moments told) status
     (turned_from (ahead m (g.H.Host.files old).log o.opened) (texts_at (g.H.Host.files old).log) (texts_in (g.H.Host.files here)) (g.H.Source.unread old) (g.H.Source.unread here) (g.H.Host.written old) (g.H.Host.written here)
     (g.H.Host.files here) (g.H.Host.history here) (g.H.Host.files new) (g.H.Host.written new) (g.H.Host.history new) status (o.texts told) moves.uses.unread moves.uses.written turned)
