@@ -1,0 +1,3 @@
+pub mod Applicable
+pub mod Bound
+pub mod SoundDatabase

@@ -1,0 +1,4 @@
+pub mod Trees
+pub mod Checked
+pub mod Meant
+pub mod Texts

@@ -1,0 +1,11 @@
+use Rattle.std.proofs.Common.{[], List, OnOk, ap, ◌∙◌, subst}
+use Rattle.std.specs.List.{list_any}
+use Rattle.hs_database.specs.Database.{apply, is_definition}
+use Rattle.hs_plan.specs.declared.change.Change.{Change}
+use Rattle.hs_instance.specs.Instance.{IsInstance}
+use Rattle.hs_instance.proofs.instance.Instance.make_rows.Goals as goal
+
+pub returns : goal.returns
+returns c = λ db is none.
+    subst (λ (l : List Change). OnOk c.remake.result (IsInstance (apply db l) [] c.remake.new.self)) c.as_slice.ensures
+    (c.remake.ensures db [] is (ap (list_any is_definition) c.as_slice.ensures ∙ none))

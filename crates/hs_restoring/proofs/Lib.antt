@@ -1,0 +1,2 @@
+pub mod Ongoing
+pub mod Valid

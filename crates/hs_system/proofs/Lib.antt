@@ -1,0 +1,3 @@
+pub mod Grounded
+pub mod Ahead
+pub mod Remade

@@ -1,0 +1,34 @@
+//! Laws of database systems, each on a function that does nothing. Proofs of other crates cite them from `Grounded.antt`,
+//! `Ahead.antt` and `Remade.antt` in `proofs/`.
+ghost use Rattle.std.specs.Prelude.{◌≡◌, ◌≤◌, ℕ, ◌++◌, List, length, None};
+ghost use Rattle.hs_entries.specs.declared.item.Item.{Item};
+ghost use Rattle.hs_replay.specs.Redone.{State};
+ghost use Rattle.hs_run.specs.Running.{IsTrue};
+ghost use Rattle.hs_seams.specs.Stores.{IsWorld};
+ghost use Rattle.hs_system.specs.Openings.{IsSound, Make, ended_at, first, future_at, texts_of, world_of};
+
+use crate::governed::Governed;
+
+/// What texts of a log made is regular, and has as many changes as there are texts at least.
+pub fn what_texts_make_is_regular<S: Governed>()
+    ensures regular { (texts : List (List ℕ)) (at : State) → Make S.system (first S.system) texts at → S.regular at.database }
+    ensures counted { (texts : List (List ℕ)) (at : State) → Make S.system (first S.system) texts at → length texts ≤ at.database.count }
+{}
+
+/// A run over what texts made, where no constraint is violated, is in a world that keeps what LOCKS promises.
+pub fn a_run_over_a_log_has_a_world<S: Governed>()
+    ensures { (texts : List (List ℕ)) (at : State) (made size : ℕ) → IsSound S.system texts at → IsWorld (world_of S.system at made size) }
+{}
+
+/// What is ahead of such a run tells of no commit that isn't made, over whatever items.
+pub fn a_run_over_a_log_tells_the_truth<S: Governed>()
+    ensures begins { (at : State) (made size : ℕ) → (future_at S.system at made size).commits ≡ made }
+    ensures is_true { (texts : List (List ℕ)) (at : State) (made size : ℕ) → IsSound S.system texts at → IsTrue (future_at S.system at made size) }
+{}
+
+/// The texts of its commits make again what there is when it has ended, and any first ones of them make what violates no constraint.
+pub fn what_a_run_over_a_log_makes_is_made_again<S: Governed>()
+    ensures remade { (at : State) (made size : ℕ) (items : List Item) → Make S.system at (texts_of S.system at made size items) (ended_at S.system at made size items) }
+    ensures valid { (texts : List (List ℕ)) (at : State) (made size : ℕ) (items : List Item) (front rest : List (List ℕ)) → IsSound S.system texts at → texts_of S.system at made size items ≡ front ++ rest
+        → (next : State) × (Make S.system at front next × (S.system.violated next.database ≡ None)) }
+{}

@@ -1,0 +1,4 @@
+pub mod Columns
+pub mod Definitions
+pub mod Commits
+pub mod Told
