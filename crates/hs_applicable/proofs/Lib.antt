@@ -1,5 +1,6 @@
 pub mod Behind
 pub mod Indexes
 pub mod Keeping
+pub mod Locks
 pub mod RowsSet
 pub mod Tested
