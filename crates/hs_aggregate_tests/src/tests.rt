@@ -1,7 +1,7 @@
 // Aggregates of short lists of values.
 use crate::texts::{is_wanted, read_value, read_wanted};
 use Aggregate::{Avg, Count, Max, Min, Sum};
-use hs_aggregate::{aggregate_value, count_value};
+use hs_expression::{aggregate_value, count_value};
 use hs_plan::Aggregate;
 use hs_values::{EvalFault, Value};
 use std::alloc::{AllocError, Global};

@@ -12,7 +12,7 @@ use Rattle.hs_valuetext.proofs.TextLemmas.{Alone}
 use Rattle.hs_nametext.specs.Names.{name_text, goes_on, IsNameAt}
 use Rattle.hs_keytext.specs.Owners.{Owner}
 use Rattle.hs_keytext.proofs.Printed.{printed2}
-use Rattle.hs_ruletext.specs.Conditions.{Wording}
+use Rattle.hs_tabletext.specs.Conditions.{Wording}
 use Rattle.hs_parttext.specs.Named.{IsNamed}
 use Rattle.hs_parttext.proofs.NamedLemmas.{Ends, named_nameless}
 use Rattle.hs_tabletext.specs.Columns.{added_text}

@@ -6,9 +6,9 @@ use Rattle.hs_valuetext.proofs.Bits.{not_both}
 use Rattle.hs_valuetext.proofs.NumberLemmas.{same_front}
 use Rattle.hs_nametext.specs.Names.{name_text}
 use Rattle.hs_keytext.specs.Owners.{Owner}
-use Rattle.hs_ruletext.specs.Conditions.{Wording}
+use Rattle.hs_tabletext.specs.Conditions.{Wording}
 use Rattle.hs_parttext.proofs.Known.{apart}
-use Rattle.hs_linetext.specs.Constraints.{constraint_text, IsConstraintText}
+use Rattle.hs_tabletext.specs.Constraints.{constraint_text, IsConstraintText}
 use Rattle.hs_tabletext.specs.declared.definition.AddedColumn.{AddedColumn}
 use Rattle.hs_tabletext.specs.Columns.{added_text, IsAddedText}
 use Rattle.hs_shorttext.proofs.Made.{Made, made_found, made_none}

@@ -7,10 +7,10 @@ use Rattle.hs_plan.specs.declared.definition.Rule.TheVariants as rule
 use Rattle.hs_schema.specs.Catalogue.{Things}
 use Rattle.hs_nametext.specs.Names.{name_text}
 use Rattle.hs_keytext.specs.Owners.{Owner}
-use Rattle.hs_ruletext.specs.Conditions.{Wording}
+use Rattle.hs_tabletext.specs.Conditions.{Wording}
 use Rattle.hs_parttext.specs.Lines.{IsLine}
 use Rattle.hs_parttext.specs.Named.{IsName, IsWholeName, IsBehind}
-use Rattle.hs_linetext.specs.Constraints.{constraint_text, IsConstraint}
+use Rattle.hs_tabletext.specs.Constraints.{constraint_text, IsConstraint}
 use Rattle.hs_tabletext.specs.Columns.{added_text, IsAdded}
 use Rattle.hs_shorttext.specs.Tables.{IsTable, columns_of}
 use Rattle.hs_alterationtext.specs.declared.alteration.Alteration.{Alteration}

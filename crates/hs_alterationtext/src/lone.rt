@@ -5,9 +5,8 @@ ghost use Rattle.hs_valuetext.specs.Finding.{Knows};
 ghost use Rattle.hs_alterationtext.specs.Alterations as spec;
 
 use hs_keytext::Owner;
-use hs_linetext::read_constraint;
 use hs_plan::{Constraint, Rule};
-use hs_ruletext::Conditions;
+use hs_tabletext::{Conditions, read_constraint};
 use std::alloc::{AllocError, Global};
 
 fn is_not_null(rule: &Rule) -> bool

@@ -1,22 +1,20 @@
 // Lines of ALTER TABLE as they are written.
 ghost use Rattle.std.specs.Prelude.{◌≡◌, ◌++◌, ◌∷◌, [], codes, OnOk};
 ghost use Rattle.hs_columntext.specs.Columns as columns;
-ghost use Rattle.hs_linetext.specs.Constraints.{ArePrintable};
+ghost use Rattle.hs_tabletext.specs.Constraints.{ArePrintable};
 ghost use Rattle.hs_nametext.specs.Names.{name_text};
-ghost use Rattle.hs_ruletext.specs.Rules as rules;
+ghost use Rattle.hs_tabletext.specs.Rules as rules;
 ghost use Rattle.hs_shorttext.specs.Tables as tables;
 ghost use Rattle.hs_alterationtext.specs.Alterations.{adding, alter_text};
 ghost use Rattle.hs_alterationtext.specs.declared.alteration.Alteration.TheVariants as a;
 
 use hs_base::NoMemory;
 use hs_keytext::Owner;
-use hs_linetext::print_constraint;
 use hs_nametext::print_name;
 use hs_plan::{Column, Constraint};
-use hs_ruletext::Conditions;
 use hs_schema::Catalog;
 use hs_shorttext::columns_of;
-use hs_tabletext::print_added_column;
+use hs_tabletext::{Conditions, print_added_column, print_constraint};
 use hs_values::Chars;
 use std::alloc::Global;
 

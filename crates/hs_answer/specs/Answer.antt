@@ -15,7 +15,7 @@ use Rattle.hs_plan.specs.declared.query.ValuesRow.{ValuesRow, fold-ValuesRow}
 use Rattle.hs_values.specs.declared.fault.EvalFault.{EvalFault}
 use Rattle.hs_values.specs.declared.value.Value.{Value}
 use Rattle.hs_changes.specs.Settings.{Maps}
-use Rattle.hs_function.specs.Numbers.{Outcome}
+use Rattle.hs_expression.specs.Numbers.{Outcome}
 use Rattle.hs_expression.specs.Expression.{Arm, Listed, of_arm, of_expression, of_item}
 use Rattle.hs_expression.specs.Surroundings.{Answered, Rows, Valued}
 use Rattle.hs_answer.specs.Bodies.{of_body, of_row}

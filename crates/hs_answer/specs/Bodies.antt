@@ -7,8 +7,8 @@ use Rattle.hs_plan.specs.declared.kind.Kind.{Kind}
 use Rattle.hs_values.specs.declared.fault.EvalFault.{EvalFault}
 use Rattle.hs_values.specs.declared.value.Value.{Value}
 use Rattle.hs_values.specs.Outcome.{◌>>=◌}
-use Rattle.hs_function.specs.Kinds.{given_at}
-use Rattle.hs_function.specs.Numbers.{Outcome}
+use Rattle.hs_expression.specs.Kinds.{given_at}
+use Rattle.hs_expression.specs.Numbers.{Outcome}
 use Rattle.hs_rel.specs.Bags.{united, intersected, excepted}
 use Rattle.hs_expression.specs.Expression.{valued_at}
 use Rattle.hs_expression.specs.Outcomes.{all_or_least}

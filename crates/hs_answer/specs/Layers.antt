@@ -3,7 +3,7 @@ use Rattle.std.specs.Prelude.{ℕ, Bool, List, Result}
 use Rattle.hs_plan.specs.declared.expression.Expr.TheOpen.{Join-F, Key-F, QueryBody-F, Source-F, FromItem-F, Query-F, Select-F, SortKey-F, ValuesRow-F}
 use Rattle.hs_values.specs.declared.fault.EvalFault.{EvalFault}
 use Rattle.hs_values.specs.declared.value.Value.{Value}
-use Rattle.hs_function.specs.Numbers.{Outcome}
+use Rattle.hs_expression.specs.Numbers.{Outcome}
 use Rattle.hs_expression.specs.Expression.{Arm, Listed}
 use Rattle.hs_expression.specs.Surroundings.{Answered, Rows, Valued}
 

@@ -1,6 +1,6 @@
 -- Changes that may be made one behind another.
 use Rattle.std.proofs.Common.{◌≡◌, ◌&&◌, Bool, true, false, List, [], ◌∷◌, ◌++◌, refl, ap, ◌∙◌}
-use Rattle.hs_database.specs.Database.{Database, apply, make}
+use Rattle.hs_turns.specs.Database.{Database, apply, make}
 use Rattle.hs_plan.specs.declared.change.Change.{Change}
 use Rattle.hs_applicable.specs.Applicable.{may_make, may_make_each}
 

@@ -7,9 +7,9 @@ use Rattle.std.specs.Option.{option_map_or}
 use Rattle.hs_base.specs.declared.numbers.TableNo.{TableNo}
 use Rattle.hs_changes.specs.Settings.{Setting}
 use Rattle.hs_changes.proofs.Set.{get-set_row}
-use Rattle.hs_database.specs.Database.{Database, apply, defined, has_room, make, with_row, IsNumbered}
-use Rattle.hs_database.proofs.Applied.{apply-count}
-use Rattle.hs_database.proofs.Defined.{defined_numbered}
+use Rattle.hs_turns.specs.Database.{Database, apply, defined, has_room, make, with_row, IsNumbered}
+use Rattle.hs_turns.proofs.Applied.{apply-count}
+use Rattle.hs_turns.proofs.Defined.{defined_numbered}
 use Rattle.hs_language.specs.Definitions.{still_referenced}
 use Rattle.hs_language.specs.Sound.{is_sound}
 use Rattle.hs_language.specs.Sql.{are_numbered, is_valid}
@@ -17,10 +17,10 @@ use Rattle.hs_language.specs.Validity.{all_fit, all_hold, lets_pass}
 use Rattle.hs_plan.specs.declared.change.Change.{Change}
 use Rattle.hs_plan.specs.declared.change.Change.TheVariants as change
 use Rattle.hs_plan.specs.declared.definition.Definition.{Definition}
-use Rattle.hs_redefined.proofs.Accepted.{fitting_after}
-use Rattle.hs_redefined.proofs.Fitting.{fit_from, fit_test, types_if}
-use Rattle.hs_redefined.proofs.Numbered.{is_next, up_to_after, up_to_next}
-use Rattle.hs_redefined.proofs.Sound.{parts_of, sound_after}
+use Rattle.hs_language.proofs.Accepted.{fitting_after}
+use Rattle.hs_language.proofs.Fitting.{fit_from, fit_test, types_if}
+use Rattle.hs_language.proofs.Numbered.{is_next, up_to_after, up_to_next}
+use Rattle.hs_language.proofs.Sound.{parts_of, sound_after}
 use Rattle.hs_rowtext.specs.Rows.{types_of}
 use Rattle.hs_schema.specs.Catalogue.{Things, table_numbered}
 use Rattle.hs_schema.specs.declared.table.Table.{Table}

@@ -5,8 +5,8 @@ use Rattle.std.proofs.lemmas.Bool.{and_parts}
 use Rattle.hs_ast.specs.declared.session.TransactionControl.TheVariants as control
 use Rattle.hs_claims.specs.declared.model.ControlKind.{ControlKind}
 use Rattle.hs_claims.specs.declared.model.ControlKind.TheVariants.{Locks}
-use Rattle.hs_database.specs.Database.{Database, apply, has_room, make}
-use Rattle.hs_database.specs.Definitions.{control_after}
+use Rattle.hs_turns.specs.Database.{Database, apply, has_room, make}
+use Rattle.hs_turns.specs.Definitions.{control_after}
 use Rattle.hs_language.specs.Definitions.{still_referenced}
 use Rattle.hs_plan.specs.declared.change.Change.{Change}
 use Rattle.hs_plan.specs.declared.change.Change.TheVariants as c

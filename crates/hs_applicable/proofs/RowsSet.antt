@@ -9,8 +9,8 @@ use Rattle.hs_changes.specs.Settings.{Maps, set_row, with_values}
 use Rattle.hs_changes.proofs.Set.{get-with_values}
 use Rattle.hs_index.specs.Table.{Rows}
 use Rattle.hs_language.specs.Validity.{rows_fit}
-use Rattle.hs_redefined.proofs.Fitting.{Fit, types_if}
-use Rattle.hs_redefined.proofs.Tables.{turned}
+use Rattle.hs_language.proofs.Fitting.{Fit, types_if}
+use Rattle.hs_language.proofs.Tables.{turned}
 use Rattle.hs_schema.specs.Catalogue.{Things, table_numbered}
 use Rattle.hs_schema.proofs.Things.{same_number}
 use Rattle.hs_sentences.specs.Asking.{Test, any_row}

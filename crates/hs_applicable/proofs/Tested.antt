@@ -10,9 +10,9 @@ use Rattle.hs_language.specs.Sound.{are_distinct, has_fitting_default}
 use Rattle.hs_plan.specs.declared.definition.Constraint.{Constraint}
 use Rattle.hs_plan.specs.declared.definition.Definition.{Definition}
 use Rattle.hs_plan.specs.declared.definition.Definition.TheVariants as d
-use Rattle.hs_redefined.specs.Proper.{columns_added, constraints_added, drops_index, rule_refers, IsProper}
-use Rattle.hs_redefined.proofs.Tables.{itself}
-use Rattle.hs_redefined.proofs.Whole.{all_from, all_test, none_test}
+use Rattle.hs_language.specs.Proper.{columns_added, constraints_added, drops_index, rule_refers, IsProper}
+use Rattle.hs_language.proofs.Tables.{itself}
+use Rattle.hs_language.proofs.Whole.{all_from, all_test, none_test}
 use Rattle.hs_schema.specs.Catalogue.{AreNew, IsBound, Things, number_of, owner_of}
 use Rattle.hs_schema.proofs.Things.{same_number}
 use Rattle.hs_applicable.specs.Bound.{are_new, has_table, is_bound, is_free, is_proper, is_same}

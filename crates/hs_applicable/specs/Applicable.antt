@@ -6,7 +6,7 @@ use Rattle.hs_ast.specs.declared.session.TransactionControl.TheVariants as contr
 use Rattle.hs_base.specs.declared.numbers.RowNo.{RowNo}
 use Rattle.hs_base.specs.declared.numbers.TableNo.{TableNo}
 use Rattle.hs_changes.specs.Settings.{Maps}
-use Rattle.hs_database.specs.Database.{Database, has_room, make}
+use Rattle.hs_turns.specs.Database.{Database, has_room, make}
 use Rattle.hs_language.specs.Definitions.{still_referenced}
 use Rattle.hs_language.specs.Validity.{is_long, types_in}
 use Rattle.hs_plan.specs.declared.change.Change.{Change}

@@ -7,7 +7,7 @@ use Rattle.hs_language.specs.Sound.{are_distinct, has_fitting_default}
 use Rattle.hs_plan.specs.declared.definition.Constraint.{Constraint}
 use Rattle.hs_plan.specs.declared.definition.Definition.{Definition}
 use Rattle.hs_plan.specs.declared.definition.Definition.TheVariants as d
-use Rattle.hs_redefined.specs.Proper.{columns_added, constraints_added, drops_index, rule_refers}
+use Rattle.hs_language.specs.Proper.{columns_added, constraints_added, drops_index, rule_refers}
 use Rattle.hs_schema.specs.Catalogue.{Text, Things, number_of, owner_of}
 
 abbrev pub is_free : Things → Text → Bool
@@ -37,7 +37,7 @@ is_bound things (d.DropIndex name) = is_some (owner_of things name)
 is_bound things (d.SetControl control) = true
 is_bound things (d.SetDefaultLevel serializable) = true
 
--- what `IsProper` of hs_redefined says
+-- what `IsProper` of hs_language says
 abbrev pub is_proper : Things → Definition → Bool
 is_proper things definition =
     is_bound things definition && (list_all has_fitting_default (columns_added definition)

@@ -1,6 +1,6 @@
 -- What every database meets that such changes made.
 use Rattle.std.specs.Prelude.{◌≡◌, ◌&&◌, Bool, true}
-use Rattle.hs_database.specs.Database.{Database, IsNumbered}
+use Rattle.hs_turns.specs.Database.{Database, IsNumbered}
 use Rattle.hs_language.specs.Sound.{is_sound}
 use Rattle.hs_language.specs.Sql.{are_numbered}
 use Rattle.hs_language.specs.Validity.{all_fit}

@@ -1,6 +1,6 @@
 // What a definition adds.
 ghost use Rattle.std.specs.Prelude.{◌≡◌};
-ghost use Rattle.hs_redefined.specs.Proper as spec;
+ghost use Rattle.hs_language.specs.Proper as spec;
 
 use hs_plan::{Column, Constraint, Definition};
 use std::slice::from_ref;

@@ -1,7 +1,7 @@
 // Keys over given columns.
 ghost use Rattle.std.specs.Prelude.{◌≡◌, Some};
 ghost use Rattle.hs_footprint.specs.Touched as touched;
-ghost use Rattle.hs_redefined.specs.Proper as spec;
+ghost use Rattle.hs_language.specs.Proper as spec;
 ghost use Rattle.hs_sentences.specs.Asking.{is_one_of};
 
 use hs_plan::{Constraint, Rule};

@@ -5,12 +5,12 @@ ghost use Rattle.hs_applicable.specs.Applicable.{may_make_all, may_make_each};
 ghost use Rattle.hs_applicable.specs.Bound.{is_bound, is_proper};
 ghost use Rattle.hs_applicable.specs.SoundDatabase.{IsSoundDatabase};
 ghost use Rattle.hs_claims.specs.declared.model.ControlKind.TheVariants.{Locks};
-ghost use Rattle.hs_database.specs.Database.{Database, apply};
+ghost use Rattle.hs_turns.specs.Database.{Database, apply};
 ghost use Rattle.hs_language.specs.Sql.{is_valid};
 ghost use Rattle.hs_language.specs.Validity.{lets_pass};
 ghost use Rattle.hs_plan.specs.declared.change.Change.{Change};
 ghost use Rattle.hs_plan.specs.declared.definition.Definition.{Definition};
-ghost use Rattle.hs_redefined.specs.Proper.{IsProper};
+ghost use Rattle.hs_language.specs.Proper.{IsProper};
 ghost use Rattle.hs_schema.specs.Catalogue.{IsBound, Things};
 ghost use Rattle.hs_sentences.specs.Violations.{first_violated};
 

@@ -2,7 +2,7 @@
 ghost use Rattle.std.specs.Prelude.{◌≡◌, ◌&&◌, ℕ, is_none};
 ghost use Rattle.hs_applicable.specs.Applicable as spec;
 ghost use Rattle.hs_applicable.specs.Bound as bound;
-ghost use Rattle.hs_database.specs.Database.{Database};
+ghost use Rattle.hs_turns.specs.Database.{Database};
 ghost use Rattle.hs_draft.specs.Drafted.{after};
 ghost use Rattle.hs_language.specs.Definitions.{still_referenced};
 

@@ -3,7 +3,7 @@ ghost use Rattle.std.specs.Prelude.{◌≡◌, map};
 ghost use Rattle.std.specs.List.{list_all};
 ghost use Rattle.hs_applicable.specs.Bound as bound;
 ghost use Rattle.hs_language.specs.Sound as sound;
-ghost use Rattle.hs_redefined.specs.Proper as spec;
+ghost use Rattle.hs_language.specs.Proper as spec;
 ghost use Rattle.hs_schema.specs.Catalogue.{constraints_in};
 ghost use Rattle.hs_sentences.specs.Violations.{constraints_of};
 

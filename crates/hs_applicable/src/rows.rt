@@ -1,7 +1,7 @@
 // Changes of rows.
 ghost use Rattle.std.specs.Prelude.{◌≡◌, ℕ, false, is_some};
 ghost use Rattle.hs_applicable.specs.Applicable as spec;
-ghost use Rattle.hs_database.specs.Database.{Database, is_definition};
+ghost use Rattle.hs_turns.specs.Database.{Database, is_definition};
 ghost use Rattle.hs_draft.specs.Drafted.{after};
 ghost use Rattle.hs_language.specs.Validity.{puts_long};
 ghost use Rattle.hs_rowtext.specs.Rows.{types_of};

@@ -12,7 +12,7 @@ use Rattle.hs_constraints.specs.Changed.{Changed, HeldBefore, first_of_all}
 use Rattle.hs_draft.specs.declared.draft.Draft.{Draft}
 use Rattle.hs_draft.specs.Drafted.{after, before, old_in, olds_at, touched}
 use Rattle.hs_draft.proofs.Drafted.{get-with_olds, touched_are_kept}
-use Rattle.hs_database.specs.Database.{Database}
+use Rattle.hs_turns.specs.Database.{Database}
 use Rattle.hs_language.specs.Outcomes.{violated_by}
 use Rattle.hs_language.specs.Validity.{lets_pass, touched_by}
 use Rattle.hs_applied.specs.Applied.{IsAfter}

@@ -7,7 +7,7 @@ use Rattle.hs_schema.specs.Catalogue.{Things}
 use Rattle.hs_sentences.specs.Asking.{is_one_of}
 use Rattle.hs_draft.specs.declared.draft.Draft.{Draft}
 use Rattle.hs_draft.specs.Drafted.{after, before, touched}
-use Rattle.hs_database.specs.Database.{Database}
+use Rattle.hs_turns.specs.Database.{Database}
 use Rattle.hs_language.specs.Validity.{all_hold}
 use Rattle.hs_applied.specs.Undone.{undone}
 

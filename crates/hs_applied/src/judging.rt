@@ -2,7 +2,7 @@
 ghost use Rattle.std.specs.Prelude.{◌≡◌, ℕ, List, IfOk};
 ghost use Rattle.hs_applied.specs.Applied.{IsAfter};
 ghost use Rattle.hs_constraints.specs.Changed.{Changed, HeldBefore, first_of_all};
-ghost use Rattle.hs_database.specs.Database.{Database};
+ghost use Rattle.hs_turns.specs.Database.{Database};
 ghost use Rattle.hs_draft.specs.Drafted.{after, before, touched};
 ghost use Rattle.hs_language.specs.Outcomes.{violated_by};
 ghost use Rattle.hs_language.specs.Validity.{lets_pass};

@@ -2,14 +2,14 @@
 ghost use Rattle.hs_columns.specs.Bound.{FindsQuery};
 ghost use Rattle.hs_meaning.specs.Layers.{means};
 ghost use Rattle.hs_meaning.specs.Trees.{part_of, query_of};
-ghost use Rattle.hs_surroundings.specs.Around.{seen};
-ghost use Rattle.hs_surroundings.specs.Finding.{Finds};
+ghost use Rattle.hs_meaning.specs.Around.{seen};
+ghost use Rattle.hs_meaning.specs.Finding.{Finds};
 
 use hs_ast::{Expression, Query};
 use hs_base::NoMemory;
 use hs_columns::BoundQuery;
+use hs_meaning::Surroundings;
 use hs_schema::Catalog;
-use hs_surroundings::Surroundings;
 use hs_typed::{Faults, Typed};
 use std::alloc::Global;
 

@@ -28,7 +28,7 @@ use Rattle.hs_scope.specs.declared.outputs.KeyMeaning.{KeyMeaning}
 use Rattle.hs_scope.specs.declared.outputs.KeyMeaning.TheVariants as key
 use Rattle.hs_scope.specs.Outputs.{Layer, by_layer, column_name, key_meaning, layer_of, output_name}
 use Rattle.hs_typed.specs.Faults.{fault_at}
-use Rattle.hs_meaning.specs.declared.column.PlacedColumn.{PlacedColumn}
+use Rattle.hs_meaning.specs.declared.placed.PlacedColumn.{PlacedColumn}
 use Rattle.hs_meaning.specs.Expressions as spec
 use Rattle.hs_meaning.specs.Expressions.{arm_step, form_step, part_step}
 use Rattle.hs_meaning.specs.From.{element_step, join_step, table_step}

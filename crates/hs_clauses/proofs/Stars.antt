@@ -8,7 +8,7 @@ use Rattle.hs_scope.specs.declared.column.OutputColumn.{OutputColumn}
 use Rattle.hs_scope.specs.declared.from_table.FromTable.{FromTable}
 use Rattle.hs_scope.specs.Names.{every_column}
 use Rattle.hs_typed.specs.Faults.{noted, with_fault}
-use Rattle.hs_meaning.specs.declared.column.Shown.{Shown}
+use Rattle.hs_meaning.specs.declared.placed.Shown.{Shown}
 use Rattle.hs_meaning.specs.Selects.{shown_star, star, stars}
 use Rattle.hs_meaning.specs.Surroundings.{Surroundings}
 

@@ -5,12 +5,12 @@ use Rattle.std.specs.declared.vec.Vec.{Vec}
 use Rattle.hs_ast.specs.declared.word.Identifier.{Identifier}
 use Rattle.hs_base.specs.declared.no_memory.NoMemory.{NoMemory}
 use Rattle.hs_scope.specs.declared.from_table.FromTable.{FromTable}
-use Rattle.hs_meaning.specs.declared.column.Shown.{Shown}
+use Rattle.hs_meaning.specs.declared.placed.Shown.{Shown}
 use Rattle.hs_meaning.specs.From.{Element, From}
 use Rattle.hs_meaning.specs.Layers.{BodyMeaning, ItemMeaning, TableMeaning}
 use Rattle.hs_meaning.specs.Parts.{known}
 use Rattle.hs_meaning.specs.Surroundings.{Surroundings, in_values, over_rows}
-use Rattle.hs_surroundings.specs.Finding.{Least}
+use Rattle.hs_meaning.specs.Finding.{Least}
 use Rattle.hs_typed.specs.Faults.{noted}
 use Rattle.hs_clauses.specs.declared.bound.BoundBody.{BoundBody}
 use Rattle.hs_clauses.specs.declared.bound.BoundElement.{BoundElement}

@@ -17,7 +17,7 @@ use Rattle.hs_scope.specs.declared.outputs.KeyMeaning.{KeyMeaning}
 use Rattle.hs_scope.specs.declared.outputs.KeyMeaning.TheVariants as key
 use Rattle.hs_scope.specs.Outputs.{Layer, layer_of}
 use Rattle.hs_typed.specs.Faults.{fault_at}
-use Rattle.hs_meaning.specs.declared.column.PlacedColumn.{PlacedColumn}
+use Rattle.hs_meaning.specs.declared.placed.PlacedColumn.{PlacedColumn}
 use Rattle.hs_meaning.specs.Parts.{Meaning, refused}
 use Rattle.hs_meaning.specs.Queries.{name_in, placed_key}
 use Rattle.hs_meaning.specs.Selects.{place_named}

@@ -1,12 +1,11 @@
 // Bound clauses of queries. Of each the plan is None where it breaks a rule.
 ghost use Rattle.std.specs.Prelude.{◌≡◌};
 ghost use Rattle.hs_clauses.specs.Bound.{keys_in};
-ghost use Rattle.hs_surroundings.specs.Around.{seen};
+ghost use Rattle.hs_meaning.specs.Around.{seen};
 
-use hs_meaning::PlacedColumn;
+use hs_meaning::{PlacedColumn, Surroundings};
 use hs_plan::{FromItem, QueryBody, Source};
 use hs_scope::{FromTable, Scope};
-use hs_surroundings::Surroundings;
 use sqlite_items::Items;
 
 /// A table of FROM under the name that it has there, and where its rows come from.

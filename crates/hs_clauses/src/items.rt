@@ -5,14 +5,13 @@ ghost use Rattle.hs_meaning.specs.Selects as spec;
 ghost use Rattle.hs_meaning.specs.Trees.{part_of};
 ghost use Rattle.hs_scope.specs.Names.{every_column};
 ghost use Rattle.hs_schema.specs.Catalogue.{Things};
-ghost use Rattle.hs_surroundings.specs.Around.{seen};
+ghost use Rattle.hs_meaning.specs.Around.{seen};
 ghost use Rattle.hs_typed.specs.Faults.{noted};
 
 use hs_ast::{Expression, Identifier};
 use hs_base::NoMemory;
-use hs_meaning::Shown;
+use hs_meaning::{Shown, Surroundings, column_at};
 use hs_scope::{FromTable, OutputColumn, Scopes, output_name};
-use hs_surroundings::{Surroundings, column_at};
 use hs_typed::{Faults, Typed};
 use std::alloc::Global;
 

@@ -6,13 +6,13 @@ ghost use Rattle.hs_meaning.specs.Surroundings as surroundings;
 ghost use Rattle.hs_meaning.specs.Trees.{key_of, part_of};
 ghost use Rattle.hs_plan.specs.declared.query.Key.TheVariants as plan_key;
 ghost use Rattle.hs_schema.specs.Catalogue.{Things};
-ghost use Rattle.hs_surroundings.specs.Finding.{Finds};
+ghost use Rattle.hs_meaning.specs.Finding.{Finds};
 
 use hs_ast::{Expression, ExpressionKind};
 use hs_base::NoMemory;
+use hs_meaning::{note_ambiguous, note_types};
 use hs_plan::{Key, SortKey};
 use hs_scope::{KeyMeaning, Outputs};
-use hs_surroundings::{note_ambiguous, note_types};
 use hs_typed::{Faults, Typed};
 use std::alloc::Global;
 

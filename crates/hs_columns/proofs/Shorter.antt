@@ -1,7 +1,7 @@
 -- Columns one above the other, where the lists differ in length.
 use Rattle.std.proofs.Common.{◌≡◌, ℕ, ◌++◌, ◌∷◌, [], List, length, take, drop, refl, ap, arith}
 use Rattle.std.proofs.lemmas.Grind.{common_steps}
-use Rattle.hs_meaning.specs.declared.column.PlacedColumn.{PlacedColumn}
+use Rattle.hs_meaning.specs.declared.placed.PlacedColumn.{PlacedColumn}
 use Rattle.hs_meaning.specs.Queries.{common_kind, paired}
 
 -- what has nothing below it is left out

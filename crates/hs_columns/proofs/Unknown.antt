@@ -1,7 +1,7 @@
 -- Columns of which one isn't known.
 use Rattle.std.proofs.Common.{◌≡◌, List, [], ◌∷◌, map, fold, Option, Some, None, refl, ap, ◌∙◌}
 use Rattle.hs_plan.specs.declared.kind.Kind.{Kind}
-use Rattle.hs_meaning.specs.declared.column.PlacedColumn.{PlacedColumn}
+use Rattle.hs_meaning.specs.declared.placed.PlacedColumn.{PlacedColumn}
 use Rattle.hs_meaning.specs.Parts.{with_part}
 
 -- behind an unknown part nothing becomes known

@@ -3,9 +3,8 @@ ghost use Rattle.std.specs.Prelude.{◌≡◌, ◌≤◌, length};
 ghost use Rattle.hs_meaning.specs.Queries as spec;
 ghost use Rattle.hs_typed.specs.Faults.{noted};
 
-use hs_meaning::PlacedColumn;
+use hs_meaning::{PlacedColumn, note_types};
 use hs_plan::{Cause, Kind, PlacedFault, widest};
-use hs_surroundings::note_types;
 use hs_typed::Faults;
 
 /// Notes that numbers of columns differ. That fault has no place.

@@ -9,13 +9,13 @@ use Rattle.hs_plan.specs.declared.definition.Definition.{Definition}
 use Rattle.hs_plan.specs.declared.definition.Definition.TheVariants as d
 use Rattle.hs_schema.specs.declared.table.Table.{Table}
 use Rattle.hs_schema.specs.Catalogue.{Things}
-use Rattle.hs_database.specs.Database.{is_definition}
+use Rattle.hs_turns.specs.Database.{is_definition}
 use Rattle.hs_valuetext.proofs.Bits.{or_false, not_both}
 use Rattle.hs_nametext.specs.Names.{name_text}
-use Rattle.hs_ruletext.specs.Conditions.{Wording}
+use Rattle.hs_tabletext.specs.Conditions.{Wording}
 use Rattle.hs_rowtext.specs.Lines.{row_line, IsChangeOf, IsRowLine}
-use Rattle.hs_deftext.specs.Definitions.{definition_text, IsDefinitionText}
-use Rattle.hs_deftext.specs.Changes.{IsChangeText}
+use Rattle.hs_committext.specs.Definitions.{definition_text, IsDefinitionText}
+use Rattle.hs_committext.specs.Changes.{IsChangeText}
 use Rattle.hs_committext.specs.Lines.{AreLinesOf}
 use Rattle.hs_committext.specs.Commits.{AreCommitted, AreChangesIn, IsLoneDefinition}
 

@@ -3,3 +3,7 @@ pub mod RowLemmas
 pub mod FormLemmas
 pub mod TextLemmas
 pub mod OneText
+pub mod DefinitionLemmas
+pub mod ChangeLemmas
+pub mod OneDefinition
+pub mod Printable

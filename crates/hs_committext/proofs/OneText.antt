@@ -8,10 +8,10 @@ use Rattle.hs_plan.specs.declared.change.Change.{Change}
 use Rattle.hs_schema.specs.Catalogue.{Things}
 use Rattle.hs_schema.specs.Whole.{IsWhole}
 use Rattle.hs_log.specs.CommitText as log
-use Rattle.hs_ruletext.specs.Conditions.{Wording}
-use Rattle.hs_deftext.specs.Changes.{change_text, IsChange, IsChangeText, IsPrintable}
-use Rattle.hs_deftext.proofs.OneText as one
-use Rattle.hs_deftext.proofs.Printable.{change_printable, text_printable}
+use Rattle.hs_tabletext.specs.Conditions.{Wording}
+use Rattle.hs_committext.specs.Changes.{change_text, IsChange, IsChangeText, IsPrintable}
+use Rattle.hs_committext.proofs.OneDefinition as one
+use Rattle.hs_committext.proofs.Printable.{change_printable, text_printable}
 use Rattle.hs_committext.specs.Lines.{lines_of, AreLinesOf}
 use Rattle.hs_committext.specs.Commits.{number_of, changes_text, commit_text, HaveText, IsCommitText}
 

@@ -14,7 +14,7 @@ use Rattle.hs_valuetext.specs.Values.{value_text}
 use Rattle.hs_nametext.specs.Names.{name_text}
 use Rattle.hs_columnlaws.proofs.CleanColumns.{clean_name}
 use Rattle.hs_columnlaws.proofs.CleanValues.{Clean, clean++, clean_value, clean_decimal}
-use Rattle.hs_linetext.proofs.CleanRules.{feedless}
+use Rattle.hs_tabletext.proofs.CleanRules.{feedless}
 use Rattle.hs_parttext.specs.Lines.{has_feed}
 use Rattle.hs_rowtext.specs.Lines.{values_part, number_part, numbered_part, IsRowNo, IsRowLine}
 use Rattle.hs_rowtext.specs.Rows.{others_text, row_text, types_of}

@@ -11,9 +11,9 @@ use Rattle.hs_plan.specs.declared.definition.Definition.TheVariants as d
 use Rattle.hs_schema.specs.Catalogue.{Things}
 use Rattle.hs_log.specs.CommitText as log
 use Rattle.hs_log.proofs.CommitTexts.{split_found, made_text, made_lawful}
-use Rattle.hs_ruletext.specs.Conditions.{Wording}
-use Rattle.hs_deftext.specs.Definitions.{definition_text}
-use Rattle.hs_deftext.specs.Changes.{IsChangeText}
+use Rattle.hs_tabletext.specs.Conditions.{Wording}
+use Rattle.hs_committext.specs.Definitions.{definition_text}
+use Rattle.hs_committext.specs.Changes.{IsChangeText}
 use Rattle.hs_committext.specs.Lines.{AreLinesOf}
 use Rattle.hs_committext.specs.Commits.{number_of, AreChangesIn, IsCommitText}
 

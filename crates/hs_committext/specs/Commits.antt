@@ -8,11 +8,11 @@ use Rattle.hs_plan.specs.declared.change.Change.TheVariants as c
 use Rattle.hs_plan.specs.declared.definition.Definition.{Definition}
 use Rattle.hs_schema.specs.Catalogue.{Things}
 use Rattle.hs_sessions.specs.declared.commit.Commit.{Commit}
-use Rattle.hs_database.specs.Database.{is_definition}
+use Rattle.hs_turns.specs.Database.{is_definition}
 use Rattle.hs_log.specs.CommitText as log
-use Rattle.hs_ruletext.specs.Conditions.{Wording}
-use Rattle.hs_deftext.specs.Definitions.{IsDefinitionText}
-use Rattle.hs_deftext.specs.Changes.{change_text, IsChange, IsChangeText}
+use Rattle.hs_tabletext.specs.Conditions.{Wording}
+use Rattle.hs_committext.specs.Definitions.{IsDefinitionText}
+use Rattle.hs_committext.specs.Changes.{change_text, IsChange, IsChangeText}
 use Rattle.hs_committext.specs.Lines.{lines_of, AreLinesOf}
 
 -- the changes of a commit: there is one at least, and a definition stands alone

@@ -1,12 +1,12 @@
 // Changes of commits as they are read.
 ghost use Rattle.std.specs.Prelude.{◌≡◌, ◌≢◌, ◌∷◌, ◌++◌, [], ℕ, List, IfOk, MatchOption};
-ghost use Rattle.hs_deftext.specs.Changes.{IsChangeText};
+ghost use Rattle.hs_committext.specs.Changes.{IsChangeText};
 ghost use Rattle.hs_valuetext.specs.Finding.{Knows};
 ghost use Rattle.hs_committext.specs.Commits.{AreChangesIn, IsLoneDefinition};
 ghost use Rattle.hs_committext.specs.Lines.{AreLinesOf};
 
 use crate::rows::read_rows;
-use hs_deftext::{Conditions, read_definition};
+use crate::{Conditions, read_definition};
 use hs_plan::{Change, Changes, Definition};
 use hs_schema::Catalog;
 use sqlite_items::Boxed;

@@ -1,7 +1,7 @@
 // Commits as they are written and read.
 ghost use Rattle.std.specs.Prelude.{◌≡◌, ℕ, [], IfOk};
 ghost use Rattle.std.specs.List.{All};
-ghost use Rattle.hs_deftext.specs.Changes.{IsPrintable};
+ghost use Rattle.hs_committext.specs.Changes.{IsPrintable};
 ghost use Rattle.hs_log.specs.CommitText.{IsSession};
 ghost use Rattle.hs_schema.specs.Whole.{IsWhole};
 ghost use Rattle.hs_valuetext.specs.Finding.{Knows};
@@ -9,12 +9,12 @@ ghost use Rattle.hs_log.specs.CommitText as log;
 ghost use Rattle.hs_committext.specs.Commits as spec;
 ghost use Rattle.hs_committext.specs.Reading.{Reads};
 
+use crate::Conditions;
 use crate::changes::read_changes;
 use crate::fault::TextFault;
 use crate::printing::print_changes;
 use hs_base::{NoMemory, SessionNo};
 use hs_claims::Claims;
-use hs_deftext::Conditions;
 use hs_log::{begin_commit, end_commit, split_commit};
 use hs_plan::Changes;
 use hs_schema::Catalog;

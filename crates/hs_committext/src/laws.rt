@@ -5,11 +5,11 @@ ghost use Rattle.hs_base.specs.declared.numbers.SessionNo.{SessionNo};
 ghost use Rattle.hs_plan.specs.declared.change.Change.{Change};
 ghost use Rattle.hs_schema.specs.Catalogue.{Things};
 ghost use Rattle.hs_schema.specs.Whole.{IsWhole};
-ghost use Rattle.hs_deftext.specs.Changes.{IsPrintable};
+ghost use Rattle.hs_committext.specs.Changes.{IsPrintable};
 ghost use Rattle.hs_log.specs.CommitText.{IsSession};
 ghost use Rattle.hs_committext.specs.Commits.{changes_text, commit_text, HaveText, IsCommitText};
 
-use hs_deftext::Conditions;
+use crate::Conditions;
 
 /// Beside a whole catalogue each commit has one text behind a text of the session before, which `commit_text` is. So what is
 /// written is read back as it was, and what is read is written again byte by byte.

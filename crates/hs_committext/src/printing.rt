@@ -1,11 +1,11 @@
 // Changes of commits as they are written.
 ghost use Rattle.std.specs.Prelude.{◌≡◌, ◌++◌, OnOk};
 ghost use Rattle.std.specs.List.{All};
-ghost use Rattle.hs_deftext.specs.Changes.{IsPrintable};
+ghost use Rattle.hs_committext.specs.Changes.{IsPrintable};
 ghost use Rattle.hs_committext.specs.Commits.{changes_text};
 
+use crate::{Conditions, print_change};
 use hs_base::NoMemory;
-use hs_deftext::{Conditions, print_change};
 use hs_plan::Change;
 use hs_schema::Catalog;
 use hs_values::Chars;

@@ -3,7 +3,7 @@ ghost use Rattle.std.specs.Prelude.{◌≡◌, OnErr};
 ghost use Rattle.std.specs.Option.{option_map};
 ghost use Rattle.hs_conclusions.specs.Bound.{bound};
 ghost use Rattle.hs_meaning.specs.Parts.{by_one, by_two};
-ghost use Rattle.hs_surroundings.specs.Finding.{Finds};
+ghost use Rattle.hs_meaning.specs.Finding.{Finds};
 ghost use Rattle.hs_typed.specs.Rules.{call_typed, case_typed, in_list_typed};
 
 use hs_ast::Function;

@@ -3,14 +3,14 @@ ghost use Rattle.std.specs.Prelude.{◌≡◌, if◌then◌else◌, [], OnErr};
 ghost use Rattle.hs_conclusions.specs.Bound.{bound};
 ghost use Rattle.hs_meaning.specs.Expressions.{aggregate_meaning};
 ghost use Rattle.hs_meaning.specs.Parts.{by_three, by_two, meant, refused};
-ghost use Rattle.hs_surroundings.specs.Around.{seen};
-ghost use Rattle.hs_surroundings.specs.Finding.{Finds};
+ghost use Rattle.hs_meaning.specs.Around.{seen};
+ghost use Rattle.hs_meaning.specs.Finding.{Finds};
 ghost use Rattle.hs_typed.specs.Faults.{noted};
 ghost use Rattle.hs_typed.specs.Rules.{rows_typed, substring_typed, trim_typed};
 
 use hs_base::NoMemory;
+use hs_meaning::{Surroundings, note_types};
 use hs_plan::{Aggregate, TrimForm};
-use hs_surroundings::{Surroundings, note_types};
 use hs_typed::{Faults, Typed, bind_aggregate, bind_substring, bind_trim, count_rows as rows};
 use std::alloc::Global;
 

@@ -5,7 +5,7 @@ ghost use Rattle.hs_meaning.specs.Parts.{by_one};
 ghost use Rattle.hs_typed.specs.Faults.{noted};
 ghost use Rattle.hs_typed.specs.Rules.{assigned_typed, condition_typed};
 
-use hs_surroundings::note_types;
+use hs_meaning::note_types;
 use hs_typed::{Faults, Typed, bind_assigned, bind_condition};
 use hs_values::SqlType;
 

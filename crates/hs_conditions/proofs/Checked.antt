@@ -10,7 +10,7 @@ use Rattle.hs_meaning.specs.Queries.{body_step, key_step, query_step, row_step}
 use Rattle.hs_meaning.specs.Selects.{item_step, select_step}
 use Rattle.hs_meaning.specs.Trees.{part_of}
 use Rattle.hs_schema.specs.Catalogue.{Things}
-use Rattle.hs_surroundings.specs.Finding.{Least}
+use Rattle.hs_meaning.specs.Finding.{Least}
 use Rattle.hs_typed.specs.declared.typed.Typed.{Typed}
 use Rattle.hs_typed.specs.Faults.{noted, with_fault}
 use Rattle.hs_typed.specs.Rules.{condition_typed}

@@ -4,7 +4,7 @@ use Rattle.std.specs.Prelude.{◌↔◌, IsTrue}
 use Rattle.hs_conditiontext.specs.Conditions.{condition_text}
 use Rattle.hs_plan.specs.declared.definition.Column.{Column}
 use Rattle.hs_plan.specs.declared.expression.Expr.{Expr}
-use Rattle.hs_ruletext.specs.Conditions.{IsConditionText}
+use Rattle.hs_tabletext.specs.Conditions.{IsConditionText}
 use Rattle.hs_sameness.specs.Plain.{is_plain}
 use Rattle.hs_sameness.specs.Same.{Tells}
 use Rattle.hs_valuetext.specs.Finding.{Knows}

@@ -3,7 +3,7 @@ use Rattle.std.specs.Prelude.{◌≡◌, ◌^◌, ℕ, nat_lt, Bool, true, false
 use Rattle.hs_conditiontext.specs.Conditions.{condition_text}
 use Rattle.hs_plan.specs.declared.definition.Column.{Column}
 use Rattle.hs_plan.specs.declared.expression.Expr.{Expr}
-use Rattle.hs_ruletext.specs.Conditions.{Wording}
+use Rattle.hs_tabletext.specs.Conditions.{Wording}
 use Rattle.hs_sameness.specs.Plain.{is_plain}
 use Rattle.hs_valuetext.specs.Texts.{has_control}
 use Rattle.hs_conditions.specs.Reading.{condition_of}

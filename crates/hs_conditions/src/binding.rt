@@ -4,17 +4,17 @@ ghost use Rattle.hs_conditions.specs.Reading as spec;
 ghost use Rattle.hs_meaning.specs.Parts.{broken_at, of_one, part_by, tree_in, tree_of};
 ghost use Rattle.hs_meaning.specs.Statements.{IsAnswer, check_meaning};
 ghost use Rattle.hs_plan.specs.declared.fault.PlacedFault.{PlacedFault};
-ghost use Rattle.hs_surroundings.specs.Finding.{Finds};
+ghost use Rattle.hs_meaning.specs.Finding.{Finds};
 ghost use Rattle.hs_typed.specs.Faults.{least, noted};
 ghost use Rattle.hs_typed.specs.Rules.{condition_typed};
 
 use hs_ast::Condition;
 use hs_base::NoMemory;
 use hs_binding::Binder;
+use hs_meaning::{Surroundings, note_types};
 use hs_plan::{BindFault, Column, Expr};
 use hs_schema::{Catalog, Table};
 use hs_scope::{FromTable, Scope};
-use hs_surroundings::{Surroundings, note_types};
 use hs_typed::{Faults, Typed, bind_condition};
 use std::alloc::Global;
 

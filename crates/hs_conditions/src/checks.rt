@@ -4,7 +4,7 @@ use hs_base::NoMemory;
 use hs_binding::Binder;
 use hs_conditiontext::print_condition;
 use hs_plan::{Column, Expr};
-use hs_ruletext::Conditions;
+use hs_tabletext::Conditions;
 use hs_values::Chars;
 use std::alloc::{AllocError, Global};
 

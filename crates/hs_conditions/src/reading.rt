@@ -4,7 +4,7 @@ ghost use Rattle.std.specs.Option.{option_map_or};
 ghost use Rattle.hs_conditions.specs.Reading as spec;
 ghost use Rattle.hs_conditions.specs.Texts.{HasText, MayStand, checks, is_short};
 ghost use Rattle.hs_conditiontext.specs.Conditions.{condition_text};
-ghost use Rattle.hs_ruletext.specs.Conditions.{IsConditionText};
+ghost use Rattle.hs_tabletext.specs.Conditions.{IsConditionText};
 ghost use Rattle.hs_sameness.specs.Plain as plainness;
 ghost use Rattle.hs_valuetext.specs.Finding.{Knows};
 ghost use Rattle.hs_valuetext.specs.Texts as texts;

@@ -10,8 +10,8 @@ use Rattle.hs_claims.specs.Held.{held_by}
 use Rattle.hs_claims.specs.Session.{IsSession}
 use Rattle.hs_plan.specs.declared.change.Change.{Change}
 use Rattle.hs_sessions.specs.Settings.{fresh}
-use Rattle.hs_histories.specs.Histories.{Commit, Open}
-use Rattle.hs_histories.proofs.Lists.{each_map}
+use Rattle.hs_turns.specs.Histories.{Commit, Open}
+use Rattle.hs_turns.proofs.Lists.{each_map}
 use Rattle.hs_seams.specs.Stores.{present}
 use Rattle.hs_seams.specs.World.{World}
 use Rattle.hs_sides.specs.Sides.{Side, with_new}

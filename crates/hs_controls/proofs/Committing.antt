@@ -5,8 +5,8 @@ use Rattle.std.proofs.lemmas.Bool.{or_right}
 use Rattle.std.proofs.lemmas.List.{map-append}
 use Rattle.hs_plan.specs.declared.change.Change.{Change}
 use Rattle.hs_plan.specs.declared.definition.Definition.{Definition}
-use Rattle.hs_histories.specs.Events.{definition_commit}
-use Rattle.hs_histories.specs.Histories.{Commit, Open, commit_of}
+use Rattle.hs_turns.specs.Events.{definition_commit}
+use Rattle.hs_turns.specs.Histories.{Commit, Open, commit_of}
 use Rattle.hs_lines.specs.Told.{words_of}
 use Rattle.hs_lines.specs.declared.words.Words.{Words as Said}
 use Rattle.hs_lines.specs.declared.words.Words.TheVariants as said

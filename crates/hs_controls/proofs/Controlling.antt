@@ -10,11 +10,11 @@ use Rattle.hs_sessions.specs.declared.control.ControlReply.{ControlReply}
 use Rattle.hs_sessions.specs.declared.control.ControlReply.TheVariants as reply
 use Rattle.hs_sessions.specs.declared.session.Session.{Session}
 use Rattle.hs_sessions.specs.Settings.{controlled}
-use Rattle.hs_histories.specs.Events.{fresh, said, stays_open}
-use Rattle.hs_histories.specs.Events.{Act as act}
-use Rattle.hs_histories.specs.Histories.{Commit, History, Open, base}
-use Rattle.hs_histories.specs.Transactions.{session_in}
-use Rattle.hs_histories.specs.Transactions.Statement.{OnSession}
+use Rattle.hs_turns.specs.Events.{fresh, said, stays_open}
+use Rattle.hs_turns.specs.Events.{Act as act}
+use Rattle.hs_turns.specs.Histories.{Commit, History, Open, base}
+use Rattle.hs_turns.specs.Transactions.{session_in}
+use Rattle.hs_turns.specs.Transactions.Statement.{OnSession}
 use Rattle.hs_lines.specs.Told.{words_of}
 use Rattle.hs_lines.specs.declared.words.Words.{Words as Said}
 use Rattle.hs_lines.specs.declared.words.Words.TheVariants as said_words

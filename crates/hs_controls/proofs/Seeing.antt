@@ -4,8 +4,8 @@ use Rattle.std.specs.Prelude.{Option, Some, if◌then◌else◌}
 use Rattle.hs_ast.specs.declared.session.Modes.{Modes as NewModes}
 use Rattle.hs_changes.specs.Changes.{count_all_inserted}
 use Rattle.hs_plan.specs.declared.change.Change.{Change}
-use Rattle.hs_database.specs.Database.{Database, view}
-use Rattle.hs_histories.specs.Histories.{Open, own}
+use Rattle.hs_turns.specs.Database.{Database, view}
+use Rattle.hs_turns.specs.Histories.{Open, own}
 use Rattle.hs_schema.specs.Catalogue.{Text}
 use Rattle.hs_seams.specs.Stores.{seen}
 use Rattle.hs_seams.specs.World.{World}

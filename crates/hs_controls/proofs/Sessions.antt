@@ -12,7 +12,7 @@ use Rattle.hs_sessions.specs.declared.session.Session.{Session}
 use Rattle.hs_sessions.specs.declared.session.Transaction.{Transaction}
 use Rattle.hs_sessions.specs.Savepoints.{changes_at, is_called}
 use Rattle.hs_sessions.specs.Settings.{begun, controlled, fresh, gone_back, released}
-use Rattle.hs_histories.specs.Transactions.{Trace, session_in}
+use Rattle.hs_turns.specs.Transactions.{Trace, session_in}
 use Rattle.hs_turns.specs.Machine.{Settings, session_seen, settings_in}
 
 -- ---- with an open transaction

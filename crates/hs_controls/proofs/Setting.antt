@@ -10,9 +10,9 @@ use Rattle.hs_sessions.specs.declared.control.ControlReply.{ControlReply}
 use Rattle.hs_sessions.specs.declared.session.Session.{Session}
 use Rattle.hs_sessions.specs.declared.session.Transaction.{Transaction}
 use Rattle.hs_sessions.specs.Settings.{controlled}
-use Rattle.hs_histories.specs.Histories.{Open, put_open}
-use Rattle.hs_histories.specs.Transactions.{session_in, with_session}
-use Rattle.hs_histories.specs.Transactions.Statement.{OnSession}
+use Rattle.hs_turns.specs.Histories.{Open, put_open}
+use Rattle.hs_turns.specs.Transactions.{session_in, with_session}
+use Rattle.hs_turns.specs.Transactions.Statement.{OnSession}
 use Rattle.hs_turns.specs.Machine.{Settings, session_seen, settings_in}
 use Rattle.hs_turns.proofs.Opened.{has}
 use Rattle.hs_waits.specs.Waits.{waits_of}

@@ -4,7 +4,7 @@ use Rattle.std.specs.Prelude.{if◌then◌else◌}
 use Rattle.std.proofs.lemmas.Bool.{and_parts, not-true}
 use Rattle.hs_claims.specs.Session.{IsSession}
 use Rattle.hs_plan.specs.declared.change.Change.{Change}
-use Rattle.hs_histories.specs.Histories.{Commit, Open, others}
+use Rattle.hs_turns.specs.Histories.{Commit, Open, others}
 use Rattle.hs_lines.specs.declared.words.Words.{Words as Said}
 use Rattle.hs_schema.specs.Catalogue.{Text}
 use Rattle.hs_seams.specs.declared.attempted.Attempted.{Attempted}

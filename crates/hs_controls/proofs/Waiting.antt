@@ -13,10 +13,10 @@ use Rattle.hs_claims.specs.Held.{blocks as claims_block}
 use Rattle.hs_claims.specs.Session.{IsSession}
 use Rattle.hs_plan.specs.declared.change.Change.{Change}
 use Rattle.hs_plan.specs.declared.definition.Definition.{Definition}
-use Rattle.hs_database.specs.Definitions.{control_after}
-use Rattle.hs_histories.specs.Each.{Each}
-use Rattle.hs_histories.specs.Events.{definition_commit}
-use Rattle.hs_histories.specs.Histories.{Commit, Open, others}
+use Rattle.hs_turns.specs.Definitions.{control_after}
+use Rattle.hs_turns.specs.Each.{Each}
+use Rattle.hs_turns.specs.Events.{definition_commit}
+use Rattle.hs_turns.specs.Histories.{Commit, Open, others}
 use Rattle.hs_lines.specs.declared.words.Words.{Words as Said}
 use Rattle.hs_lines.specs.declared.words.Words.TheVariants as said
 use Rattle.hs_seams.specs.declared.attempted.Attempted.{Attempted}

@@ -1,6 +1,6 @@
 -- Statements on settings and savepoints.
 use Rattle.std.specs.Prelude.{◌≡◌, ℕ, ◌==◌, ◌&&◌, not, Bool, true, false, List, ◌++◌, None, length, take, codes}
-use Rattle.hs_histories.specs.Histories.{Commit}
+use Rattle.hs_turns.specs.Histories.{Commit}
 use Rattle.hs_lines.specs.declared.words.Words.{Words as Said}
 use Rattle.hs_plan.specs.declared.change.Change.{Change}
 use Rattle.hs_seams.specs.World.{World}

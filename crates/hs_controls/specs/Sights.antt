@@ -1,7 +1,7 @@
 -- Definitions, as their sessions see the database.
 use Rattle.std.specs.Prelude.{◌≡◌, ℕ, List, Option, false}
 use Rattle.hs_claims.specs.Session.{IsSession}
-use Rattle.hs_histories.specs.Histories.{Commit}
+use Rattle.hs_turns.specs.Histories.{Commit}
 use Rattle.hs_schema.specs.Catalogue.{Text}
 use Rattle.hs_seams.specs.Stores.{seen}
 use Rattle.hs_seams.specs.World.{World}

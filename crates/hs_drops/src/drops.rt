@@ -1,7 +1,7 @@
 // DROP TABLE, DROP INDEX, and ALTER TABLE with DROP CONSTRAINT.
 ghost use Rattle.std.specs.Prelude.{◌≡◌, IfOk};
 ghost use Rattle.hs_schema.specs.Catalogue.{table_named};
-ghost use Rattle.hs_surroundings.specs.Finding.{Finds};
+ghost use Rattle.hs_meaning.specs.Finding.{Finds};
 ghost use Rattle.hs_drops.specs.Answers.{Answers, AnswersDropConstraint};
 ghost use Rattle.hs_drops.specs.Definitions as spec;
 

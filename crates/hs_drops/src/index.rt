@@ -1,7 +1,7 @@
 // CREATE INDEX.
 ghost use Rattle.std.specs.Prelude.{◌≡◌};
 ghost use Rattle.hs_schema.specs.Catalogue.{table_named};
-ghost use Rattle.hs_surroundings.specs.Finding.{Finds};
+ghost use Rattle.hs_meaning.specs.Finding.{Finds};
 ghost use Rattle.hs_drops.specs.Answers.{Answers, AnswersIndex};
 ghost use Rattle.hs_drops.specs.Definitions as spec;
 

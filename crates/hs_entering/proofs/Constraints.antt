@@ -1,12 +1,12 @@
 -- Constraints whose conditions have texts.
 use Rattle.std.proofs.Common.{◌≡◌, ℕ, ◌+◌, ◌<◌, Bool, true, false, List, length, get_or, take, sym, subst}
 use Rattle.std.proofs.lemmas.List.Elements.{All-get_or, All-more}
-use Rattle.hs_linetext.specs.Constraints.{ArePrintable}
+use Rattle.hs_tabletext.specs.Constraints.{ArePrintable}
 use Rattle.hs_logged.specs.Entered.{Decides}
 use Rattle.hs_plan.specs.declared.definition.Column.{Column}
 use Rattle.hs_plan.specs.declared.definition.Constraint.{Constraint}
-use Rattle.hs_ruletext.specs.Conditions.{Wording}
-use Rattle.hs_ruletext.specs.Rules.{IsPrintable}
+use Rattle.hs_tabletext.specs.Conditions.{Wording}
+use Rattle.hs_tabletext.specs.Rules.{IsPrintable}
 
 module _ (wording : Wording) (columns : List Column) (constraints : List Constraint) (index : ℕ) (one : Constraint) (within : index < length constraints) (is : one ≡ get_or constraints index one) where
   abbrev Has : Constraint → Type 0

@@ -7,12 +7,12 @@ use Rattle.std.proofs.lemmas.List.Sums.{fold-append}
 use Rattle.hs_base.specs.declared.numbers.SessionNo.{SessionNo}
 use Rattle.hs_committext.specs.Commits.{commit_text}
 use Rattle.hs_committext.proofs.OneText.{read_printable}
-use Rattle.hs_database.specs.Database.{Database, apply}
-use Rattle.hs_database.specs.Numbers.{numbered}
-use Rattle.hs_deftext.specs.Changes as changes
-use Rattle.hs_deftext.specs.Definitions as definitions
+use Rattle.hs_turns.specs.Database.{Database, apply}
+use Rattle.hs_turns.specs.Numbers.{numbered}
+use Rattle.hs_committext.specs.Changes as changes
+use Rattle.hs_committext.specs.Definitions as definitions
 use Rattle.hs_entering.specs.Taken.{IsKept, IsSettled, IsTaken}
-use Rattle.hs_histories.specs.Histories.{Commit, make}
+use Rattle.hs_turns.specs.Histories.{Commit, make}
 use Rattle.hs_logged.specs.Entered.{Decides, Enters, HasRoomIn, HasText, with_text}
 use Rattle.hs_logged.specs.Logged.{HasRoom, IsBehind, changes_behind, session_of}
 use Rattle.hs_logged.specs.Writable.{IsWritable}
@@ -21,9 +21,9 @@ use Rattle.hs_logged.proofs.Worlds.{last_more, size_more}
 use Rattle.hs_plan.specs.declared.change.Change.{Change}
 use Rattle.hs_plan.specs.declared.change.Change.TheVariants as change
 use Rattle.hs_plan.specs.declared.definition.Definition.{Definition}
-use Rattle.hs_replay.specs.Made.{Makes}
-use Rattle.hs_replay.specs.Redone.{Takes}
-use Rattle.hs_ruletext.specs.Conditions.{Wording}
+use Rattle.hs_logged.specs.Made.{Makes}
+use Rattle.hs_logged.specs.Redone.{Takes}
+use Rattle.hs_tabletext.specs.Conditions.{Wording}
 use Rattle.hs_schema.specs.Catalogue.{Things}
 use Rattle.hs_seams.specs.Stores.{present}
 use Rattle.hs_seams.specs.World.{World}

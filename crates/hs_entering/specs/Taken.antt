@@ -1,12 +1,12 @@
 -- Commits that a log takes, and what it comes to where one is to be made.
 use Rattle.std.specs.Prelude.{◌≡◌, ℕ, Bool, true, false, List, [], ◌∷◌, ◌++◌}
-use Rattle.hs_database.specs.Database.{Database}
-use Rattle.hs_histories.specs.Histories.{Commit}
+use Rattle.hs_turns.specs.Database.{Database}
+use Rattle.hs_turns.specs.Histories.{Commit}
 use Rattle.hs_logged.specs.Entered.{Decides}
 use Rattle.hs_logged.specs.Logged.{HasRoom, IsBehind, changes_behind, text_behind}
 use Rattle.hs_logged.specs.declared.logbook.Logbook.{Logbook}
-use Rattle.hs_replay.specs.Redone.{Takes}
-use Rattle.hs_ruletext.specs.Conditions.{Wording}
+use Rattle.hs_logged.specs.Redone.{Takes}
+use Rattle.hs_tabletext.specs.Conditions.{Wording}
 use Rattle.hs_seams.specs.Stores.{present}
 use Rattle.hs_seams.specs.World.{World}
 

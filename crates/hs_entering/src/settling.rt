@@ -1,15 +1,15 @@
 // Commits, and their texts.
 ghost use Rattle.std.specs.Prelude.{◌≡◌, ◌∷◌, [], List, false, IfOk, OnErr};
 ghost use Rattle.std.specs.List.{All};
-ghost use Rattle.hs_database.specs.Database.{Database};
+ghost use Rattle.hs_turns.specs.Database.{Database};
 ghost use Rattle.hs_entering.specs.Defaults.{HasLawfulDefaults};
 ghost use Rattle.hs_entering.specs.Taken.{IsKept, IsSettled};
-ghost use Rattle.hs_histories.specs.Histories.{Commit as TheCommit};
+ghost use Rattle.hs_turns.specs.Histories.{Commit as TheCommit};
 ghost use Rattle.hs_logged.specs.Logged.{IsBehind, changes_behind};
 ghost use Rattle.hs_logged.specs.Writable.{IsWritable};
 ghost use Rattle.hs_logged.specs.declared.logbook.Logbook.{Logbook as TheLogbook};
 ghost use Rattle.hs_plan.specs.declared.change.Change.TheVariants as change;
-ghost use Rattle.hs_replay.specs.Made.{IsHeld};
+ghost use Rattle.hs_logged.specs.Made.{IsHeld};
 ghost use Rattle.hs_seams.specs.Stores.{present};
 ghost use Rattle.hs_seams.specs.World.{World};
 
@@ -17,9 +17,8 @@ use crate::texts::has_text;
 use hs_base::{NoMemory, SessionNo};
 use hs_claims::Claims;
 use hs_log::Batch;
-use hs_logged::Logbook;
+use hs_logged::{Logbook, Restored};
 use hs_plan::{Change, Changes, Definition};
-use hs_replay::Restored;
 use hs_sessions::Commit;
 use hs_wording::CheckTexts;
 use sqlite_items::Boxed;

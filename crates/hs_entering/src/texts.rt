@@ -1,10 +1,10 @@
 // Whether a definition has a text.
 ghost use Rattle.std.specs.Prelude.{◌++◌, ◌∷◌, [], IfOk};
-ghost use Rattle.hs_deftext.specs.Definitions as definitions;
+ghost use Rattle.hs_committext.specs.Definitions as definitions;
 ghost use Rattle.hs_entering.specs.Defaults.{HasLawfulDefaults};
-ghost use Rattle.hs_linetext.specs.Constraints as lines;
+ghost use Rattle.hs_tabletext.specs.Constraints as lines;
 ghost use Rattle.hs_logged.specs.Entered.{Decides};
-ghost use Rattle.hs_ruletext.specs.Rules as rules;
+ghost use Rattle.hs_tabletext.specs.Rules as rules;
 ghost use Rattle.hs_shorttext.specs.Tables as tables;
 
 use crate::columns::with_column;

@@ -6,7 +6,7 @@ use Rattle.hs_values.specs.declared.fault.EvalFault.{EvalFault}
 use Rattle.hs_values.specs.Outcome.{Gives, ◌>>=◌}
 use Rattle.hs_expression.specs.Outcomes.{all_or_least}
 use Rattle.hs_expression.specs.Surroundings.{Rows, Surroundings, Valued}
-use Rattle.hs_function.specs.Numbers.{Outcome}
+use Rattle.hs_expression.specs.Numbers.{Outcome}
 use Rattle.hs_answer.specs.Bodies.{sides_combined}
 use Rattle.hs_answer.specs.From.{from_rows}
 use Rattle.hs_answer.specs.Groups.{places_of}

@@ -10,8 +10,8 @@ use Rattle.hs_values.specs.declared.fault.EvalFault.{EvalFault}
 use Rattle.hs_values.specs.declared.value.Value.{Value}
 use Rattle.hs_values.specs.Outcome.{◌>>=◌}
 use Rattle.hs_changes.specs.Settings.{Maps}
-use Rattle.hs_function.specs.Numbers.{Outcome}
-use Rattle.hs_aggregate.specs.Aggregates.{aggregate_value}
+use Rattle.hs_expression.specs.Numbers.{Outcome}
+use Rattle.hs_expression.specs.Aggregates.{aggregate_value}
 use Rattle.hs_expression.specs.Expression.{arm_at, listed_at, value_in_group, valued_at}
 use Rattle.hs_expression.specs.Forms.{chosen, first_known, found_in}
 use Rattle.hs_expression.specs.Outcomes.{all_or_least}

@@ -13,13 +13,11 @@ use crate::lists::{chosen, first_known, found_in};
 use crate::outcomes::{aggregated, group_spots};
 use crate::parts::{is_decided, is_false, reading_in};
 use crate::queries::query_rows;
-use hs_aggregate::count_value;
 use hs_ast::Aggregate;
 use hs_copied::TableCopies;
-use hs_expression::Place;
-use hs_function::{
-    between_value, binary_value, given_at, greatest_test, least_test, negated_if, read_value,
-    readable, ternary_value, unary_value,
+use hs_expression::{
+    Place, between_value, binary_value, count_value, given_at, greatest_test, least_test,
+    negated_if, read_value, readable, ternary_value, unary_value,
 };
 use hs_places::{exists, in_answer, only_value};
 use hs_plan::{Binary, Expr, Reading, Ternary};

@@ -9,8 +9,7 @@ ghost use Rattle.hs_eval.specs.Parts.{chosen_by, found_by, known_by};
 
 use crate::expressions::value;
 use hs_copied::TableCopies;
-use hs_expression::Place;
-use hs_function::{disjunction, equal_test, is_null, is_true, readable};
+use hs_expression::{Place, disjunction, equal_test, is_null, is_true, readable};
 use hs_plan::{CaseArm, Expr, ListItem};
 use hs_values::{EvalFault, Value, ValueRef};
 

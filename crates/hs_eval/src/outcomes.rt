@@ -11,9 +11,8 @@ ghost use Rattle.hs_places.specs.Places.{places_over};
 ghost use Rattle.hs_settled.specs.Spots.{spots_seen};
 ghost use Rattle.hs_eval.specs.Parts.{aggregate_by, place_at};
 
-use hs_aggregate::aggregate_value;
 use hs_ast::Aggregate;
-use hs_expression::{Around, Place};
+use hs_expression::{Around, Place, aggregate_value};
 use hs_places::{Over, Places, all_values, one_row};
 use hs_plan::Expr;
 use hs_settled::Spots;

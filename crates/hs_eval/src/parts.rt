@@ -4,7 +4,7 @@ ghost use Rattle.hs_values.specs.Order.{seen};
 ghost use Rattle.hs_expression.specs.Forms as spec;
 
 use hs_ast::BinaryOperator;
-use hs_function::is_true;
+use hs_expression::is_true;
 use hs_plan::{Binary, Reading};
 use hs_values::ValueRef;
 

@@ -6,7 +6,7 @@ use Rattle.hs_applied.specs.Applied.{IsAfter}
 use Rattle.hs_changes.specs.Changes.{after_changes, count_all_inserted, settings_of}
 use Rattle.hs_changes.specs.Settings.{Maps, is_set}
 use Rattle.hs_changes.proofs.Applied.{after_changes-append}
-use Rattle.hs_database.specs.Database.{Database, view}
+use Rattle.hs_turns.specs.Database.{Database, view}
 use Rattle.hs_draft.specs.Drafted.{before, touched}
 use Rattle.hs_language.specs.Outcomes.{violated_by}
 use Rattle.hs_language.specs.Validity.{all_hold, lets_pass}

@@ -2,8 +2,8 @@
 use Rattle.std.proofs.Common.{◌≡◌, ℕ, Bool, true, false, List, Option, Some, None, refl, sym}
 use Rattle.std.specs.List.{list_any}
 use Rattle.hs_claims.specs.declared.footprint.Footprint.{Footprint}
-use Rattle.hs_database.specs.Database.{Database}
-use Rattle.hs_histories.specs.Language.{Outcome}
+use Rattle.hs_turns.specs.Database.{Database}
+use Rattle.hs_turns.specs.Language.{Outcome}
 use Rattle.hs_language.specs.Outcomes.{kept_unless_long, kept_unless_violated}
 use Rattle.hs_language.specs.Reading.{Reading}
 use Rattle.hs_language.specs.Validity.{puts_long}

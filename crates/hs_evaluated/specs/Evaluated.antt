@@ -1,7 +1,7 @@
 -- What a data statement comes to, and leaves.
 use Rattle.std.specs.Prelude.{◌≡◌, List, ◌++◌}
 use Rattle.hs_changes.specs.Changes.{count_all_inserted}
-use Rattle.hs_database.specs.Database.{Database, view}
+use Rattle.hs_turns.specs.Database.{Database, view}
 use Rattle.hs_language.specs.Outcomes.{of_plan}
 use Rattle.hs_language.specs.Reading.{Reading}
 use Rattle.hs_plan.specs.declared.change.Change.{Change}

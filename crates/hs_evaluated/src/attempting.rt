@@ -2,7 +2,7 @@
 ghost use Rattle.std.specs.Prelude.{◌≡◌, ◌++◌, [], List, true, length, IfOk, OnOk, if◌then◌else◌};
 ghost use Rattle.hs_changes.specs.Changes.{count_all_inserted};
 ghost use Rattle.hs_changes.specs.Settings.{Maps};
-ghost use Rattle.hs_database.specs.Database.{Database, view};
+ghost use Rattle.hs_turns.specs.Database.{Database, view};
 ghost use Rattle.hs_language.specs.Outcomes.{violated_by};
 ghost use Rattle.hs_language.specs.Validity.{all_hold};
 ghost use Rattle.hs_plan.specs.declared.change.Change.{Change as TheChange};

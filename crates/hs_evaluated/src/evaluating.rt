@@ -1,7 +1,7 @@
 // What a data statement comes to, and leaves.
 ghost use Rattle.std.specs.Prelude.{◌≡◌, List, true, IfOk};
 ghost use Rattle.hs_acting.specs.Kept.{keys_in};
-ghost use Rattle.hs_database.specs.Database.{Database, view};
+ghost use Rattle.hs_turns.specs.Database.{Database, view};
 ghost use Rattle.hs_language.specs.Reading.{Reading, TellsTables};
 ghost use Rattle.hs_language.specs.Validity.{all_hold};
 ghost use Rattle.hs_outcome.specs.Same.{ListsAscending};

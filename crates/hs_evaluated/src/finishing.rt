@@ -1,7 +1,7 @@
 // What a statement comes to, once it is known which constraint its changes violate first.
 ghost use Rattle.std.specs.Prelude.{◌≡◌, [], IfOk, if◌then◌else◌};
 ghost use Rattle.hs_claims.specs.declared.footprint.Footprint.{Footprint as TheFootprint};
-ghost use Rattle.hs_database.specs.Database.{Database};
+ghost use Rattle.hs_turns.specs.Database.{Database};
 ghost use Rattle.hs_language.specs.Reading.{Reading};
 ghost use Rattle.hs_outcome.specs.Given.{changes_in, finished, foot_of};
 ghost use Rattle.hs_plan.specs.declared.plan.Plan.{Plan as ThePlan};

@@ -2,7 +2,7 @@
 ghost use Rattle.std.specs.Prelude.{◌≡◌, ℕ, List, IfOk, OnOk};
 ghost use Rattle.hs_acting.specs.Kept.{keys_in};
 ghost use Rattle.hs_changes.specs.Settings.{Maps};
-ghost use Rattle.hs_database.specs.Database.{Database};
+ghost use Rattle.hs_turns.specs.Database.{Database};
 ghost use Rattle.hs_draft.specs.Drafted.{after};
 ghost use Rattle.hs_language.specs.Outcomes.{of_plan};
 ghost use Rattle.hs_language.specs.Reading.{Reading, TellsTables};

@@ -1,0 +1,3 @@
+pub mod OfNull
+pub mod Wholes
+pub mod Years

@@ -9,10 +9,10 @@ use Rattle.hs_plan.specs.declared.expression.Expr.{Expr, fold-Expr}
 use Rattle.hs_plan.specs.declared.expression.Expr.TheOpen.{Expr-F, CaseArm-F, ListItem-F}
 use Rattle.hs_plan.specs.declared.expression.ListItem.{ListItem, fold-ListItem}
 use Rattle.hs_plan.specs.declared.reading.Reading.{Reading}
-use Rattle.hs_function.specs.Kinds.{given_at, read_value}
-use Rattle.hs_function.specs.Numbers.{Outcome}
-use Rattle.hs_function.specs.Operators.{unary_value}
-use Rattle.hs_aggregate.specs.Aggregates.{count_value, aggregate_value}
+use Rattle.hs_expression.specs.Kinds.{given_at, read_value}
+use Rattle.hs_expression.specs.Numbers.{Outcome}
+use Rattle.hs_expression.specs.Operators.{unary_value}
+use Rattle.hs_expression.specs.Aggregates.{count_value, aggregate_value}
 use Rattle.hs_expression.specs.Forms.{two_operands, three_operands, in_list, values_of, exists, only_value, chosen, or_otherwise, first_known}
 use Rattle.hs_expression.specs.Outcomes.{all_or_least}
 use Rattle.hs_expression.specs.Surroundings.{Surroundings, Valued, Answered, column, at_row}

@@ -12,10 +12,10 @@ use Rattle.hs_plan.specs.declared.operator.Binary.TheVariants as b
 use Rattle.hs_plan.specs.declared.operator.Ternary.{Ternary}
 use Rattle.hs_plan.specs.declared.operator.Ternary.TheVariants as three
 use Rattle.hs_plan.specs.declared.reading.Reading.{Reading}
-use Rattle.hs_function.specs.Kinds.{readable}
-use Rattle.hs_function.specs.Logic.{is_null, is_true, negated_if, disjunction}
-use Rattle.hs_function.specs.Numbers.{Outcome}
-use Rattle.hs_function.specs.Operators.{binary_value, ternary_value, least_test, greatest_test, equal_test, between_value}
+use Rattle.hs_expression.specs.Kinds.{readable}
+use Rattle.hs_expression.specs.Logic.{is_null, is_true, negated_if, disjunction}
+use Rattle.hs_expression.specs.Numbers.{Outcome}
+use Rattle.hs_expression.specs.Operators.{binary_value, ternary_value, least_test, greatest_test, equal_test, between_value}
 
 abbrev pub is_false : Value → Bool
 is_false (v.Bool b) = not b

@@ -3,3 +3,13 @@ pub mod Forms
 pub mod Outcomes
 pub mod Plain
 pub mod Surroundings
+pub mod Cast
+pub mod Kinds
+pub mod Logic
+pub mod Moments
+pub mod Nulls
+pub mod Numbers
+pub mod Operators
+pub mod Texts
+pub mod Aggregates
+pub mod Distinct

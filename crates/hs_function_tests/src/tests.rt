@@ -1,7 +1,7 @@
 // Each operation with its values, its NULLs and its faults, from the rules that docs/SQL.md tells.
 use crate::operations::*;
 use crate::texts::{is_wanted, read_operands, read_value, read_wanted};
-use hs_function::{
+use hs_expression::{
     between_value, binary_value, equal_test, given_at, greatest_test, is_below_zero, is_null,
     is_true, least_test, negated_if, plus, quotient, read_value as read_as, readable, sum,
     ternary_value, unary_value,

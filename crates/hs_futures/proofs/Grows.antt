@@ -12,13 +12,13 @@ use Rattle.hs_schema.specs.Catalogue.{Text}
 use Rattle.hs_sessions.specs.declared.control.Control.{Control}
 use Rattle.hs_sessions.specs.Modes.{joined, no_modes}
 use Rattle.hs_sessions.specs.Settings.{controlled}
-use Rattle.hs_database.specs.Database.{Database, has_room, view}
-use Rattle.hs_histories.specs.Language.{Language}
-use Rattle.hs_histories.specs.Transactions.{Statement}
-use Rattle.hs_histories.specs.Transactions.Statement.{Data, OnSession}
-use Rattle.hs_histories.specs.Histories.{Open, Commit, History, base, commit_of, is_free, newer, no_conflict, now, others, own}
-use Rattle.hs_histories.specs.Events.{Event, Act, by_act, commit_by, define, define_by, defines as defining_step, definition_commit, finish, fresh, judged, said, says, stays_open, step}
-use Rattle.hs_histories.specs.Events.{Act as act}
+use Rattle.hs_turns.specs.Database.{Database, has_room, view}
+use Rattle.hs_turns.specs.Language.{Language}
+use Rattle.hs_turns.specs.Transactions.{Statement}
+use Rattle.hs_turns.specs.Transactions.Statement.{Data, OnSession}
+use Rattle.hs_turns.specs.Histories.{Open, Commit, History, base, commit_of, is_free, newer, no_conflict, now, others, own}
+use Rattle.hs_turns.specs.Events.{Event, Act, by_act, commit_by, define, define_by, defines as defining_step, definition_commit, finish, fresh, judged, said, says, stays_open, step}
+use Rattle.hs_turns.specs.Events.{Act as act}
 use Rattle.hs_turns.specs.Dialect.{Dialect, Request, language_of}
 use Rattle.hs_turns.specs.Dialect.{Request as request}
 use Rattle.hs_turns.specs.Lines.{Words, First}

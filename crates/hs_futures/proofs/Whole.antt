@@ -6,7 +6,7 @@ use Rattle.hs_entries.specs.declared.item.Item.TheVariants as item
 use Rattle.hs_machine.specs.Acknowledged.{AcknowledgesLines}
 use Rattle.hs_schema.specs.Catalogue.{Text}
 use Rattle.hs_sessions.specs.Book.{number_from}
-use Rattle.hs_histories.specs.Histories.{Commit}
+use Rattle.hs_turns.specs.Histories.{Commit}
 use Rattle.hs_run.specs.Items.{AreTold}
 use Rattle.hs_run.specs.Pieces.{AreTrue, Piece, made_by, told_by}
 use Rattle.hs_seams.specs.World.{World, texts_from, texts_since}

@@ -1,7 +1,7 @@
 -- What is ahead of a run, as the pieces that its turns come to.
 use Rattle.std.specs.Prelude.{◌≡◌, ◌++◌, ℕ, zero, suc, ◌+◌, Bool, true, false, if◌then◌else◌, List, [], ◌∷◌, length, Option, None, Some}
 use Rattle.hs_entries.specs.declared.item.Item.{Item}
-use Rattle.hs_histories.specs.Histories.{Commit}
+use Rattle.hs_turns.specs.Histories.{Commit}
 use Rattle.hs_run.specs.declared.gathered.Gathered.{Gathered}
 use Rattle.hs_run.specs.Future.{Future}
 use Rattle.hs_run.specs.Pieces.{Piece}

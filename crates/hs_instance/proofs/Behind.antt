@@ -8,11 +8,11 @@ use Rattle.hs_acting.specs.declared.references.References.{References}
 use Rattle.hs_actions.specs.Referencing.{keys_on}
 use Rattle.hs_ast.specs.declared.session.Isolation.{Isolation}
 use Rattle.hs_ast.specs.declared.session.TransactionControl.{TransactionControl}
-use Rattle.hs_database.specs.Database.{Database, apply, defined, is_definition, make}
-use Rattle.hs_database.specs.Definitions.{control_after, kind_of, level_after, rows_after}
-use Rattle.hs_database.specs.Numbers.{final_change, numbered, numbers_from}
-use Rattle.hs_database.proofs.Applied.{apply-count}
-use Rattle.hs_database.proofs.Tables.{Frame, frame}
+use Rattle.hs_turns.specs.Database.{Database, apply, defined, is_definition, make}
+use Rattle.hs_turns.specs.Definitions.{control_after, kind_of, level_after, rows_after}
+use Rattle.hs_turns.specs.Numbers.{final_change, numbered, numbers_from}
+use Rattle.hs_turns.proofs.Applied.{apply-count}
+use Rattle.hs_turns.proofs.Tables.{Frame, frame}
 use Rattle.hs_plan.specs.declared.change.Change.{Change}
 use Rattle.hs_plan.specs.declared.change.Change.TheVariants as change
 use Rattle.hs_plan.specs.declared.definition.Definition.{Definition}

@@ -1,2 +1,4 @@
 pub mod Behind
 pub mod Held
+pub mod Ongoing
+pub mod Valid

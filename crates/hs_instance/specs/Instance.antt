@@ -5,8 +5,8 @@ use Rattle.std.specs.Option.{option_map}
 use Rattle.hs_acting.specs.Kept.{keys_in}
 use Rattle.hs_ast.specs.declared.session.Isolation.TheVariants.{ReadCommitted}
 use Rattle.hs_claims.specs.declared.model.ControlKind.TheVariants.{Locks}
-use Rattle.hs_database.specs.Database.{Database}
-use Rattle.hs_database.specs.Definitions.{kind_of}
+use Rattle.hs_turns.specs.Database.{Database}
+use Rattle.hs_turns.specs.Definitions.{kind_of}
 use Rattle.hs_language.specs.Validity.{lets_pass}
 use Rattle.hs_plan.specs.declared.change.Change.{Change}
 use Rattle.hs_references.specs.Referenced.{AreOf}

@@ -1,7 +1,7 @@
 // Rows and their indexes, as a definition leaves them.
 ghost use Rattle.std.specs.Prelude.{◌≡◌, [], OnOk};
 ghost use Rattle.hs_changes.specs.Settings.{Maps};
-ghost use Rattle.hs_database.specs.Definitions.{rows_after};
+ghost use Rattle.hs_turns.specs.Definitions.{rows_after};
 ghost use Rattle.hs_schema.specs.Catalogue.{after, IsBound, IsNext};
 ghost use Rattle.hs_seated.specs.Seated.{IsSeated};
 

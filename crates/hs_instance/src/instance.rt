@@ -1,7 +1,7 @@
 // A database in memory.
 ghost use Rattle.std.specs.Prelude.{◌≡◌, ◌+◌, ◌^◌, ◌<◌, ◌≤◌, [], List, false, length, IfOk, OnOk};
 ghost use Rattle.std.specs.List.{list_any};
-ghost use Rattle.hs_database.specs.Database.{Database, apply, committed, defined, is_definition, make};
+ghost use Rattle.hs_turns.specs.Database.{Database, apply, committed, defined, is_definition, make};
 ghost use Rattle.hs_plan.specs.declared.change.Change.{Change as TheChange};
 ghost use Rattle.hs_schema.specs.Catalogue.{IsBound, IsNext};
 ghost use Rattle.hs_instance.specs.Instance.{IsInstance, empty_database, violated_name};

@@ -1,6 +1,6 @@
 // The settings of a database behind a definition.
 ghost use Rattle.std.specs.Prelude.{◌≡◌};
-ghost use Rattle.hs_database.specs.Definitions as spec;
+ghost use Rattle.hs_turns.specs.Definitions as spec;
 ghost use Rattle.hs_sessions.specs.Book as sessions;
 
 use hs_ast::{Isolation, TransactionControl};

@@ -1,0 +1,13 @@
+pub mod Accepted
+pub mod Created
+pub mod Dropped
+pub mod Fitting
+pub mod Grown
+pub mod Holding
+pub mod Keys
+pub mod Lists
+pub mod Numbered
+pub mod Sound
+pub mod Tables
+pub mod Whole
+pub mod Without

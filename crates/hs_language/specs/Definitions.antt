@@ -18,7 +18,7 @@ use Rattle.hs_sentences.specs.declared.violation.Violation.{Violation}
 use Rattle.hs_sentences.specs.declared.violation.Violation.TheVariants as is
 use Rattle.hs_sentences.specs.Violations.{Touched, constraints_of, first_violated}
 use Rattle.hs_footprint.specs.Touched.{key_over}
-use Rattle.hs_database.specs.Database.{Database, defined}
+use Rattle.hs_turns.specs.Database.{Database, defined}
 use Rattle.hs_language.specs.Validity.{is_long, lets_pass, types_in}
 use Rattle.hs_language.specs.Words.{long_row_words, violation_words}
 

@@ -13,7 +13,7 @@ use Rattle.hs_changes.specs.Changes.{count_inserted, settings_of}
 use Rattle.hs_changes.specs.Settings.{Maps, Setting, set_rows}
 use Rattle.hs_footprint.specs.Touched.{keys_at, parents_at}
 use Rattle.hs_schema.specs.Catalogue.{Things}
-use Rattle.hs_database.specs.Database.{Database}
+use Rattle.hs_turns.specs.Database.{Database}
 
 -- ---- rows that are known
 

@@ -6,3 +6,4 @@ pub mod Sound
 pub mod Sql
 pub mod Validity
 pub mod Words
+pub mod Proper

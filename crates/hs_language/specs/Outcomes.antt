@@ -21,8 +21,8 @@ use Rattle.hs_dml.specs.Told.{columns_in, tentative}
 use Rattle.hs_effects.specs.Effects.{around_in}
 use Rattle.hs_answer.specs.Answer.{answer}
 use Rattle.hs_footprint.specs.Touched.{keys_changed, parents_named, rows_changed}
-use Rattle.hs_database.specs.Database.{Database}
-use Rattle.hs_histories.specs.Language.{Outcome}
+use Rattle.hs_turns.specs.Database.{Database}
+use Rattle.hs_turns.specs.Language.{Outcome}
 use Rattle.hs_turns.specs.Dialect.{nothing, refused_words}
 use Rattle.hs_language.specs.Reading.{Reading}
 use Rattle.hs_language.specs.Validity.{lets_pass, puts_long, touched_by}

@@ -3,7 +3,7 @@ use Rattle.std.specs.Prelude.{◌↔◌, Bool, List, Result}
 use Rattle.std.specs.List.{Contains}
 use Rattle.hs_base.specs.declared.numbers.TableNo.{TableNo}
 use Rattle.hs_closure.specs.Changing.{IsRead, IsWritten}
-use Rattle.hs_histories.specs.Histories.{Commit}
+use Rattle.hs_turns.specs.Histories.{Commit}
 use Rattle.hs_plan.specs.declared.plan.Plan.{Plan}
 use Rattle.hs_schema.specs.Catalogue.{Text, Things}
 use Rattle.hs_turns.specs.Dialect.{Request}

@@ -7,8 +7,8 @@ use Rattle.hs_plan.specs.declared.plan.LockedTable.{LockedTable}
 use Rattle.hs_plan.specs.declared.plan.Plan.{Plan}
 use Rattle.hs_plan.specs.declared.plan.Plan.TheVariants as plan
 use Rattle.hs_schema.specs.Catalogue.{Text}
-use Rattle.hs_database.specs.Database.{Database}
-use Rattle.hs_histories.specs.Language.{Outcome}
+use Rattle.hs_turns.specs.Database.{Database}
+use Rattle.hs_turns.specs.Language.{Outcome}
 use Rattle.hs_turns.specs.Dialect.{Dialect, nothing}
 use Rattle.hs_language.specs.Definitions.{judged}
 use Rattle.hs_language.specs.Described.{described}

@@ -19,7 +19,7 @@ use Rattle.hs_changes.specs.Settings.{Setting}
 use Rattle.hs_schema.specs.Catalogue.{Things, table_numbered}
 use Rattle.hs_sentences.specs.Violations.{Checks, Touched, first_violated}
 use Rattle.hs_answer.specs.Answer.{evaluated}
-use Rattle.hs_database.specs.Database.{Database}
+use Rattle.hs_turns.specs.Database.{Database}
 
 -- ---- CHECK
 

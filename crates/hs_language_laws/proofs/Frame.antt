@@ -22,7 +22,7 @@ use Rattle.hs_sentences.specs.Violations.{constraints_of, first_violated}
 use Rattle.hs_footprint.specs.Touched.{keys_at, keys_changed, keys_of}
 use Rattle.hs_effects.specs.Effects.{AgreeFor, IsOfWritten, IsRead}
 use Rattle.hs_effects.proofs.Violations.{first_same}
-use Rattle.hs_database.specs.Database.{Database}
+use Rattle.hs_turns.specs.Database.{Database}
 use Rattle.hs_language.specs.Reading.{Reading, TellsTables}
 use Rattle.hs_language.specs.Sound.{has_fitting_default, is_owned, is_sound, is_sound_constraint, is_whole}
 use Rattle.hs_language.specs.Sql.{are_numbered, is_valid}
@@ -31,7 +31,7 @@ use Rattle.hs_language_laws.proofs.Catalogue.{Holds, held_from}
 use Rattle.hs_language_laws.proofs.Lists.{all_at, empty_of, from_flat}
 use Rattle.hs_language_laws.proofs.Tables.{changed_written, child_near, has_near, has_needed, has_written, is_written, or_right, parent_near}
 use Rattle.hs_language_laws.proofs.Touching.{Changes, IsOf, Names, table_of}
-use Rattle.hs_redefined.proofs.Whole.{whole_from}
+use Rattle.hs_language.proofs.Whole.{whole_from}
 
 -- ---- a valid database
 

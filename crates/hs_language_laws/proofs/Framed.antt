@@ -21,7 +21,7 @@ use Rattle.hs_effects.proofs.Edited.{delete_written, insert_written, update_writ
 use Rattle.hs_effects.proofs.Links.{own_same}
 use Rattle.hs_effects.proofs.Statements.{chosen_same, delete_same, insert_same, update_same}
 use Rattle.hs_tentative.specs.Statements.{Around}
-use Rattle.hs_database.specs.Database.{Database}
+use Rattle.hs_turns.specs.Database.{Database}
 use Rattle.hs_language.specs.Outcomes.{answered, around, changed, count_of, keys_in, kept_unless_violated, of_plan, of_tables, own_count, violated_by}
 use Rattle.hs_language.specs.Reading.{Reading, TellsTables}
 use Rattle.hs_language.specs.Validity.{lets_pass}

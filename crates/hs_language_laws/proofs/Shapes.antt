@@ -7,8 +7,8 @@ use Rattle.hs_plan.specs.declared.plan.Plan.{Plan}
 use Rattle.hs_values.specs.declared.fault.EvalFault.{EvalFault}
 use Rattle.hs_schema.specs.Catalogue.{Text}
 use Rattle.hs_sentences.specs.declared.violation.Violation.{Violation}
-use Rattle.hs_database.specs.Database.{Database}
-use Rattle.hs_histories.specs.Language.{Outcome}
+use Rattle.hs_turns.specs.Database.{Database}
+use Rattle.hs_turns.specs.Language.{Outcome}
 use Rattle.hs_language.specs.Outcomes.{around, changed, kept_unless_long, kept_unless_violated, of_changes, of_tables, own_count, refused, violated_by}
 use Rattle.hs_language.specs.Reading.{Reading}
 use Rattle.hs_language.specs.Validity.{puts_long}

@@ -19,9 +19,9 @@ use Rattle.hs_answer.specs.Answer.{answer}
 use Rattle.hs_footprint.specs.Touched.{if_committed, name_of, rows_changed, rows_of}
 use Rattle.hs_dml.specs.Told.{tentative}
 use Rattle.hs_effects.specs.Effects.{AreLinks, IsOfWritten}
-use Rattle.hs_database.specs.Database.{Database}
-use Rattle.hs_histories.specs.Each.{Each}
-use Rattle.hs_histories.specs.Language.{Agree, IsWithin, Outcome, references_of}
+use Rattle.hs_turns.specs.Database.{Database}
+use Rattle.hs_turns.specs.Each.{Each}
+use Rattle.hs_turns.specs.Language.{Agree, IsWithin, Outcome, references_of}
 use Rattle.hs_turns.specs.Dialect.{Request, language_of, nothing, outcome_of, refused_words, unless_refused, untouched}
 use Rattle.hs_turns.specs.Dialect.{Request as request}
 use Rattle.hs_language.specs.Outcomes.{answered, around, changed, keys_in, of_changes, of_plan, of_tables}

@@ -25,8 +25,8 @@ use Rattle.hs_schema.specs.declared.thing.Thing.{Thing}
 use Rattle.hs_schema.proofs.After.{number_of_name}
 use Rattle.hs_closure.specs.Changing.{Changing, HasTarget, IsChanged, IsNeeded, IsWritten, links, locked, neighbours, parent_by, parents_by, put_or_locked}
 use Rattle.hs_closure.specs.declared.way.Way.{Way}
-use Rattle.hs_database.specs.Database.{Database}
-use Rattle.hs_histories.specs.Language.{reference_by, references_of}
+use Rattle.hs_turns.specs.Database.{Database}
+use Rattle.hs_turns.specs.Language.{reference_by, references_of}
 use Rattle.hs_effects.specs.Effects.{IsOfWritten}
 use Rattle.hs_effects.proofs.Links.{in_map}
 use Rattle.hs_language.specs.Outcomes.{of_changes, of_tables}

@@ -1,9 +1,9 @@
 //! Laws of SQL as the language of transactions.
 ghost use Rattle.std.specs.Prelude.{◌≡◌, ℕ, Bool, true, []};
 ghost use Rattle.hs_claims.specs.Footprint.{IsLawful};
-ghost use Rattle.hs_database.specs.Database.{Database};
-ghost use Rattle.hs_histories.specs.Each.{Each};
-ghost use Rattle.hs_histories.specs.Language.{Agree, IsWithin, references_of};
+ghost use Rattle.hs_turns.specs.Database.{Database};
+ghost use Rattle.hs_turns.specs.Each.{Each};
+ghost use Rattle.hs_turns.specs.Language.{Agree, IsWithin, references_of};
 ghost use Rattle.hs_language.specs.Reading.{Reading, TellsTables};
 ghost use Rattle.hs_language.specs.Sql.{is_valid, sql};
 ghost use Rattle.hs_schema.specs.Catalogue.{Text};

@@ -2,8 +2,8 @@
 use Rattle.std.proofs.Common.{◌≡◌, ℕ, ◌+◌, ◌≤◌, Bool, true, false, ◌&&◌, nat_le, List, [], ◌∷◌, ◌++◌, length, refl, sym, ap, ap₂, subst}
 use Rattle.std.proofs.lemmas.Bool.{leb-true, le-leb}
 use Rattle.hs_gate.specs.Groups.{spelled}
-use Rattle.hs_histories.specs.Histories.{Commit}
-use Rattle.hs_ruletext.specs.Conditions.{Wording}
+use Rattle.hs_turns.specs.Histories.{Commit}
+use Rattle.hs_tabletext.specs.Conditions.{Wording}
 use Rattle.hs_seams.specs.Stores.{present}
 use Rattle.hs_seams.specs.World.{World, texts_from}
 use Rattle.hs_logged.specs.Entered.{Decides, HasText}

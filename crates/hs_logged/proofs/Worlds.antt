@@ -6,8 +6,8 @@ use Rattle.hs_base.specs.declared.numbers.SessionNo.{SessionNo}
 use Rattle.hs_committext.specs.Commits.{commit_text}
 use Rattle.hs_gate.specs.Groups.{spelled}
 use Rattle.hs_gate.proofs.Numbers.{length-spelled, length-spelled_append}
-use Rattle.hs_histories.specs.Histories.{Commit}
-use Rattle.hs_ruletext.specs.Conditions.{Wording}
+use Rattle.hs_turns.specs.Histories.{Commit}
+use Rattle.hs_tabletext.specs.Conditions.{Wording}
 use Rattle.hs_seams.specs.Stores.{present}
 use Rattle.hs_seams.specs.World.{World, texts_from}
 use Rattle.hs_logged.specs.Entered.{Decides, Enters, HasRoomIn, HasText, with_text}

@@ -6,9 +6,9 @@ use Rattle.std.proofs.lemmas.List.Elements.{All-nil, All-cons, All-head, All-tai
 use Rattle.hs_base.specs.declared.numbers.SessionNo.{SessionNo}
 use Rattle.hs_committext.specs.Commits.{commit_text, said, IsCommitText}
 use Rattle.hs_committext.proofs.OneText.{read_printable}
-use Rattle.hs_deftext.specs.Changes.{IsPrintable}
-use Rattle.hs_deftext.specs.Definitions as definitions
-use Rattle.hs_linetext.specs.Constraints as lines
+use Rattle.hs_committext.specs.Changes.{IsPrintable}
+use Rattle.hs_committext.specs.Definitions as definitions
+use Rattle.hs_tabletext.specs.Constraints as lines
 use Rattle.hs_plan.specs.declared.change.Change.{Change}
 use Rattle.hs_plan.specs.declared.change.Change.TheVariants as c
 use Rattle.hs_plan.specs.declared.definition.Column.{Column}
@@ -17,8 +17,8 @@ use Rattle.hs_plan.specs.declared.definition.Definition.{Definition}
 use Rattle.hs_plan.specs.declared.definition.Definition.TheVariants as d
 use Rattle.hs_plan.specs.declared.definition.Rule.{Rule}
 use Rattle.hs_plan.specs.declared.definition.Rule.TheVariants as rule
-use Rattle.hs_ruletext.specs.Conditions.{Wording}
-use Rattle.hs_ruletext.specs.Rules as rules
+use Rattle.hs_tabletext.specs.Conditions.{Wording}
+use Rattle.hs_tabletext.specs.Rules as rules
 use Rattle.hs_sameness.specs.Changes.{IsPlainChange, IsPlainConstraint, IsPlainDefinition, IsPlainRule}
 use Rattle.hs_schema.specs.Catalogue.{Things}
 use Rattle.hs_shorttext.specs.Tables.{columns_of}

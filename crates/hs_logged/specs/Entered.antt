@@ -4,7 +4,7 @@ use Rattle.hs_base.specs.declared.numbers.SessionNo.{SessionNo}
 use Rattle.hs_committext.specs.Commits.{commit_text, IsCommitText}
 use Rattle.hs_logged.specs.declared.logbook.Logbook.{Logbook}
 use Rattle.hs_plan.specs.declared.change.Change.{Change}
-use Rattle.hs_ruletext.specs.Conditions.{Wording}
+use Rattle.hs_tabletext.specs.Conditions.{Wording}
 use Rattle.hs_schema.specs.Catalogue.{Things}
 
 -- what a test says of a sentence: that it is so, or that it isn't

@@ -2,3 +2,8 @@ pub mod Writable
 pub mod Entered
 pub mod Logged
 pub mod Over
+pub mod Redone
+pub mod Made
+pub mod Read
+pub mod Reading
+pub mod Kept

@@ -2,13 +2,13 @@
 use Rattle.std.specs.Prelude.{◌≡◌, ℕ, ◌+◌, ◌≤◌, Bool, true, false, List, [], ◌∷◌, ◌++◌, length, fold, Option, Some}
 use Rattle.hs_base.specs.declared.numbers.SessionNo.{SessionNo}
 use Rattle.hs_committext.specs.Commits.{commit_text}
-use Rattle.hs_database.specs.Numbers.{numbered}
+use Rattle.hs_turns.specs.Numbers.{numbered}
 use Rattle.hs_gate.specs.Groups.{spelled}
-use Rattle.hs_histories.specs.Histories.{Commit}
+use Rattle.hs_turns.specs.Histories.{Commit}
 use Rattle.hs_logged.specs.Entered.{Decides, HasText}
 use Rattle.hs_logged.specs.declared.logbook.Logbook.{Logbook}
 use Rattle.hs_plan.specs.declared.change.Change.{Change}
-use Rattle.hs_ruletext.specs.Conditions.{Wording}
+use Rattle.hs_tabletext.specs.Conditions.{Wording}
 use Rattle.hs_seams.specs.Stores.{present}
 use Rattle.hs_seams.specs.World.{World, texts_from}
 

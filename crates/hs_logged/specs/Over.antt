@@ -2,15 +2,15 @@
 use Rattle.std.specs.Prelude.{◌≡◌, ℕ, ◌+◌, ◌&&◌, nat_le, Bool, List, [], ◌∷◌, ◌++◌, length, Option}
 use Rattle.hs_base.specs.declared.numbers.SessionNo.{SessionNo}
 use Rattle.hs_committext.specs.Commits.{commit_text}
-use Rattle.hs_database.specs.Database.{Database}
-use Rattle.hs_database.specs.Numbers.{numbered}
+use Rattle.hs_turns.specs.Database.{Database}
+use Rattle.hs_turns.specs.Numbers.{numbered}
 use Rattle.hs_gate.specs.Groups.{spelled}
-use Rattle.hs_histories.specs.Histories.{Commit, now}
+use Rattle.hs_turns.specs.Histories.{Commit, now}
 use Rattle.hs_logged.specs.Entered.{Decides, HasText}
 use Rattle.hs_logged.specs.Logged.{last_behind, session_of}
 use Rattle.hs_logged.specs.declared.logbook.Logbook.{Logbook}
 use Rattle.hs_plan.specs.declared.change.Change.{Change}
-use Rattle.hs_ruletext.specs.Conditions.{Wording}
+use Rattle.hs_tabletext.specs.Conditions.{Wording}
 use Rattle.hs_schema.specs.Catalogue.{Things}
 use Rattle.hs_seams.specs.World.{World}
 

@@ -1,12 +1,12 @@
 -- What is asked of changes that are written, and of conditions that are read again.
 use Rattle.std.specs.Prelude.{◌≡◌, Bool, true, List}
 use Rattle.std.specs.List.{All, list_all}
-use Rattle.hs_deftext.specs.Definitions as definitions
+use Rattle.hs_committext.specs.Definitions as definitions
 use Rattle.hs_plan.specs.declared.change.Change.{Change}
 use Rattle.hs_plan.specs.declared.change.Change.TheVariants as c
 use Rattle.hs_plan.specs.declared.definition.Column.{Column}
 use Rattle.hs_plan.specs.declared.expression.Expr.{Expr}
-use Rattle.hs_ruletext.specs.Conditions.{Wording}
+use Rattle.hs_tabletext.specs.Conditions.{Wording}
 use Rattle.hs_sameness.specs.Plain.{is_plain}
 use Rattle.hs_schema.specs.Catalogue.{Things}
 use Rattle.hs_values.specs.Lawful.{IsLawful}

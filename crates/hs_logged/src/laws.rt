@@ -1,7 +1,7 @@
 //! Laws of the texts that commits have in the log, each on a function that does nothing. Proofs of other crates cite them from
 //! `Worlds.antt` in `proofs/`.
 ghost use Rattle.std.specs.Prelude.{◌≡◌, ℕ, List, [], ◌∷◌, Bool};
-ghost use Rattle.hs_histories.specs.Histories.{Commit};
+ghost use Rattle.hs_turns.specs.Histories.{Commit};
 ghost use Rattle.hs_logged.specs.Entered.{Enters};
 ghost use Rattle.hs_logged.specs.Logged.{IsBehind, IsEntered, IsLogged, changes_behind, session_of};
 ghost use Rattle.hs_logged.specs.Over.{IsMadeOver, TestsTexts, TextTest};
@@ -9,7 +9,7 @@ ghost use Rattle.hs_logged.specs.declared.logbook.Logbook.{Logbook};
 ghost use Rattle.hs_seams.specs.Stores.{present};
 ghost use Rattle.hs_seams.specs.World.{World};
 
-use hs_deftext::Conditions;
+use hs_committext::Conditions;
 
 /// At the start of a run the log is as it is then.
 pub fn a_run_begins_behind_no_commit()

@@ -6,7 +6,7 @@ ghost use Rattle.hs_logged.specs.Writable.{IsPlainWording, IsWritable};
 
 use crate::texts::text_of;
 use hs_base::{NoMemory, SessionNo};
-use hs_deftext::Conditions;
+use hs_committext::Conditions;
 use hs_log::Batch;
 use hs_schema::Catalog;
 use hs_sessions::Commit;

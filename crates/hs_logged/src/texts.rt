@@ -2,15 +2,14 @@
 ghost use Rattle.std.specs.Prelude.{◌≡◌, ◌↔◌, IsTrue, IfOk};
 ghost use Rattle.std.specs.List.{All};
 ghost use Rattle.hs_committext.specs.Commits.{IsCommitText, said};
-ghost use Rattle.hs_deftext.specs.Changes.{IsPrintable};
+ghost use Rattle.hs_committext.specs.Changes.{IsPrintable};
 ghost use Rattle.hs_logged.specs.Entered.{Decides, IsTextIn};
 ghost use Rattle.hs_logged.specs.Writable.{IsPlainWording, IsWritable};
 ghost use Rattle.hs_sameness.specs.Changes.{IsPlainChange};
 
 use crate::lawful::have_lawful_values;
 use hs_base::{NoMemory, SessionNo};
-use hs_committext::{TextFault, commit_text, read_commit};
-use hs_deftext::Conditions;
+use hs_committext::{Conditions, TextFault, commit_text, read_commit};
 use hs_sameness::same_changes;
 use hs_schema::Catalog;
 use hs_sessions::Commit;

@@ -21,7 +21,7 @@ use Rattle.hs_typed.specs.declared.typed.Typed.{Typed}
 use Rattle.hs_typed.specs.Faults.{fault_at}
 use Rattle.hs_typed.specs.Literals.{literal_typed, sql_type_of}
 use Rattle.hs_typed.specs.Rules.{aggregate_typed, between_typed, binary_typed, call_typed, case_typed, condition_typed, exists_typed, in_list_typed, in_query_typed, like_typed, rows_typed, subquery_typed, substring_typed, trim_typed, unary_typed}
-use Rattle.hs_meaning.specs.declared.column.PlacedColumn.{PlacedColumn}
+use Rattle.hs_meaning.specs.declared.placed.PlacedColumn.{PlacedColumn}
 use Rattle.hs_meaning.specs.Layers.{ArmLayer, ArmPart, ExpressionLayer, Form, FormLayer, Part, QueryMeaning, means}
 use Rattle.hs_meaning.specs.Parts.{Meaning, meant, refused, known, all, if_written, of_two, of_three, judged, by_one, by_two, by_three, tree_in}
 use Rattle.hs_meaning.specs.Surroundings.{Surroundings, in_aggregate, may_stand}

@@ -11,8 +11,8 @@ use Rattle.hs_plan.specs.declared.query.QueryBody.{QueryBody}
 use Rattle.hs_plan.specs.declared.query.Source.{Source}
 use Rattle.hs_scope.specs.declared.column.OutputColumn.{OutputColumn}
 use Rattle.hs_typed.specs.declared.typed.Typed.{Typed}
-use Rattle.hs_meaning.specs.declared.column.PlacedColumn.{PlacedColumn}
-use Rattle.hs_meaning.specs.declared.column.Shown.{Shown}
+use Rattle.hs_meaning.specs.declared.placed.PlacedColumn.{PlacedColumn}
+use Rattle.hs_meaning.specs.declared.placed.Shown.{Shown}
 use Rattle.hs_meaning.specs.Parts.{Meaning}
 use Rattle.hs_meaning.specs.Surroundings.{Surroundings}
 

@@ -7,3 +7,5 @@ pub mod Selects
 pub mod Statements
 pub mod Surroundings
 pub mod Trees
+pub mod Around
+pub mod Finding

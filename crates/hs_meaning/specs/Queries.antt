@@ -25,8 +25,8 @@ use Rattle.hs_scope.specs.declared.outputs.KeyMeaning.{KeyMeaning}
 use Rattle.hs_scope.specs.declared.outputs.KeyMeaning.TheVariants as key
 use Rattle.hs_scope.specs.Outputs.{any_other, by_column, by_literal}
 use Rattle.hs_typed.specs.Faults.{fault_at}
-use Rattle.hs_meaning.specs.declared.column.PlacedColumn.{PlacedColumn}
-use Rattle.hs_meaning.specs.declared.column.Shown.{Shown}
+use Rattle.hs_meaning.specs.declared.placed.PlacedColumn.{PlacedColumn}
+use Rattle.hs_meaning.specs.declared.placed.Shown.{Shown}
 use Rattle.hs_meaning.specs.Expressions.{kinds_of}
 use Rattle.hs_meaning.specs.Layers.{BodyLayer, BodyMeaning, ItemMeaning, KeyLayer, KeyPart, Part, QueryLayer, QueryMeaning, RowLayer, RowPart, means}
 use Rattle.hs_meaning.specs.Parts.{Meaning, all, known, refused, tree_of}

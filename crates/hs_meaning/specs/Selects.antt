@@ -17,8 +17,8 @@ use Rattle.hs_scope.specs.declared.sought.Sought.{Sought}
 use Rattle.hs_scope.specs.declared.sought.Sought.TheVariants as sought
 use Rattle.hs_scope.specs.Names.{Text, every_column, sought_in}
 use Rattle.hs_typed.specs.declared.typed.Typed.{Typed}
-use Rattle.hs_meaning.specs.declared.column.PlacedColumn.{PlacedColumn}
-use Rattle.hs_meaning.specs.declared.column.Shown.{Shown}
+use Rattle.hs_meaning.specs.declared.placed.PlacedColumn.{PlacedColumn}
+use Rattle.hs_meaning.specs.declared.placed.Shown.{Shown}
 use Rattle.hs_meaning.specs.Expressions.{all_in, condition, place_meaning}
 use Rattle.hs_meaning.specs.From.{From, elements}
 use Rattle.hs_meaning.specs.Layers.{BodyMeaning, ItemLayer, ItemMeaning, ItemPart, Part, SelectLayer, means}

@@ -1,7 +1,7 @@
 -- A data statement by who is in its way.
 use Rattle.std.proofs.Common.{◌≡◌, ℕ, Bool, true, false, sym, subst}
 use Rattle.std.specs.Prelude.{Option}
-use Rattle.hs_histories.specs.Histories.{commit_of, is_free, newer, no_conflict, others}
+use Rattle.hs_turns.specs.Histories.{commit_of, is_free, newer, no_conflict, others}
 use Rattle.hs_schema.specs.Catalogue.{Text}
 use Rattle.hs_seams.specs.World.{World}
 use Rattle.hs_turns.specs.Attempts.{Attempt, Ending, attempt_data, auto_ended, blockers, data_by, ending_of, held_up_data, judged_data, leading_back, went_on}

@@ -6,11 +6,11 @@ use Rattle.hs_claims.specs.Blockers.{has}
 use Rattle.hs_plan.specs.declared.change.Change.{Change}
 use Rattle.hs_plan.specs.declared.change.Change.TheVariants as change
 use Rattle.hs_plan.specs.declared.definition.Definition.{Definition}
-use Rattle.hs_database.specs.Database.{has_room}
-use Rattle.hs_database.specs.Definitions.{control_after}
-use Rattle.hs_histories.specs.Events.{define, define_by, defines, definition_commit}
-use Rattle.hs_histories.specs.Events.{Act as act}
-use Rattle.hs_histories.specs.Histories.{Commit, History, Open}
+use Rattle.hs_turns.specs.Database.{has_room}
+use Rattle.hs_turns.specs.Definitions.{control_after}
+use Rattle.hs_turns.specs.Events.{define, define_by, defines, definition_commit}
+use Rattle.hs_turns.specs.Events.{Act as act}
+use Rattle.hs_turns.specs.Histories.{Commit, History, Open}
 use Rattle.hs_lines.specs.declared.words.Words.{Words as Said}
 use Rattle.hs_lines.specs.declared.words.Words.TheVariants as said
 use Rattle.hs_schema.specs.Catalogue.{Text}

@@ -2,7 +2,7 @@
 use Rattle.std.proofs.Common.{◌≡◌, ℕ, ◌||◌, Bool, true, false, List, [], ◌∷◌, ◌++◌, refl, sym, ap, ◌∙◌, subst, codes}
 use Rattle.std.specs.Prelude.{Option, None, Some}
 use Rattle.hs_plan.specs.declared.change.Change.{Change}
-use Rattle.hs_histories.specs.Histories.{Commit, Open, commit_of}
+use Rattle.hs_turns.specs.Histories.{Commit, Open, commit_of}
 use Rattle.hs_lines.specs.Told.{words_of}
 use Rattle.hs_lines.specs.declared.words.Words.{Words as Said}
 use Rattle.hs_lines.specs.declared.words.Words.TheVariants as said

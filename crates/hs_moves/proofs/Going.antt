@@ -7,10 +7,10 @@ use Rattle.hs_claims.specs.declared.footprint.Footprint.{Footprint}
 use Rattle.hs_claims.specs.declared.model.ControlKind.{ControlKind}
 use Rattle.hs_claims.specs.declared.model.ControlKind.TheVariants.{Locks}
 use Rattle.hs_sessions.specs.Modes.{level_of}
-use Rattle.hs_database.specs.Database.{has_room}
-use Rattle.hs_histories.specs.Events.{commit_by, finish, goes_on, judged, stays_open}
-use Rattle.hs_histories.specs.Events.{Act as act}
-use Rattle.hs_histories.specs.Histories.{Commit, History, Open, commit_of, is_free, is_snap, newer, no_conflict, now, others}
+use Rattle.hs_turns.specs.Database.{has_room}
+use Rattle.hs_turns.specs.Events.{commit_by, finish, goes_on, judged, stays_open}
+use Rattle.hs_turns.specs.Events.{Act as act}
+use Rattle.hs_turns.specs.Histories.{Commit, History, Open, commit_of, is_free, is_snap, newer, no_conflict, now, others}
 use Rattle.hs_seams.specs.World.{World}
 use Rattle.hs_sides.specs.Sides.{side_of}
 use Rattle.hs_turns.specs.Attempts.{Empty, Fits as HasRoom, TooManyChanges, data_event, ending_of, takes}

@@ -4,8 +4,8 @@ use Rattle.std.specs.Prelude.{Option, None, Some, filter}
 use Rattle.std.specs.Option.{option_map}
 use Rattle.hs_base.specs.declared.numbers.CommitNo.{CommitNo}
 use Rattle.hs_plan.specs.declared.change.Change.{Change}
-use Rattle.hs_histories.specs.Events.{finish}
-use Rattle.hs_histories.specs.Histories.{Commit, History, commit_of, is_free, newer, no_conflict, others, put_open}
+use Rattle.hs_turns.specs.Events.{finish}
+use Rattle.hs_turns.specs.Histories.{Commit, History, commit_of, is_free, newer, no_conflict, others, put_open}
 use Rattle.hs_lines.specs.Told.{words_of}
 use Rattle.hs_lines.specs.declared.words.Words.{Words as Said}
 use Rattle.hs_lines.specs.declared.words.Words.TheVariants as said

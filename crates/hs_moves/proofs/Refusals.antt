@@ -4,11 +4,11 @@ use Rattle.std.specs.Prelude.{Option, None, Some, if◌then◌else◌}
 use Rattle.hs_claims.specs.declared.footprint.Footprint.{Footprint}
 use Rattle.hs_plan.specs.declared.change.Change.{Change}
 use Rattle.hs_changes.specs.Changes.{count_all_inserted}
-use Rattle.hs_histories.specs.Events.{commit, finish, fresh, goes_on, judged, said, stays_open}
-use Rattle.hs_histories.specs.Events.{Act as act}
-use Rattle.hs_histories.specs.Histories.{Commit, History, Open, base, is_free, newer, no_conflict, others, own}
-use Rattle.hs_histories.specs.Language.{Outcome}
-use Rattle.hs_histories.specs.Transactions.Statement.{Data}
+use Rattle.hs_turns.specs.Events.{commit, finish, fresh, goes_on, judged, said, stays_open}
+use Rattle.hs_turns.specs.Events.{Act as act}
+use Rattle.hs_turns.specs.Histories.{Commit, History, Open, base, is_free, newer, no_conflict, others, own}
+use Rattle.hs_turns.specs.Language.{Outcome}
+use Rattle.hs_turns.specs.Transactions.Statement.{Data}
 use Rattle.hs_lines.specs.Told.{words_of}
 use Rattle.hs_lines.specs.declared.words.Words.{Words as Said}
 use Rattle.hs_lines.specs.declared.words.Words.TheVariants as said

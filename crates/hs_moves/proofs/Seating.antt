@@ -7,7 +7,7 @@ use Rattle.hs_claims.specs.Wants.{catalog_claim}
 use Rattle.hs_base.specs.declared.numbers.CommitNo.{CommitNo}
 use Rattle.hs_plan.specs.declared.change.Change.{Change}
 use Rattle.hs_sessions.specs.Settings.{ended}
-use Rattle.hs_histories.specs.Histories.{Commit, Open, commit_of}
+use Rattle.hs_turns.specs.Histories.{Commit, Open, commit_of}
 use Rattle.hs_seams.specs.World.{World}
 use Rattle.hs_waits.specs.Waits.{waits_of}
 use Rattle.hs_turns.specs.Waiting.{freed}

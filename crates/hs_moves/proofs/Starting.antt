@@ -3,7 +3,7 @@ use Rattle.std.proofs.Common.{◌≡◌, ◌||◌, Bool, true, false, List, [], 
 use Rattle.std.specs.Prelude.{None}
 use Rattle.hs_ast.specs.declared.session.Modes.{Modes as NewModes}
 use Rattle.hs_plan.specs.declared.change.Change.{Change}
-use Rattle.hs_histories.specs.Histories.{Commit}
+use Rattle.hs_turns.specs.Histories.{Commit}
 use Rattle.hs_lines.specs.declared.words.Words.{Words as Said}
 use Rattle.hs_lines.specs.declared.words.Words.TheVariants as said
 use Rattle.hs_seams.specs.declared.attempted.Attempted.{Attempted}

@@ -3,9 +3,9 @@ use Rattle.std.proofs.Common.{◌≡◌, ℕ, ◌-◌, Bool, true, false, List, 
 use Rattle.std.specs.Prelude.{Some, slice_set, if◌then◌else◌}
 use Rattle.hs_plan.specs.declared.change.Change.{Change}
 use Rattle.hs_sessions.specs.Modes.{no_modes}
-use Rattle.hs_database.specs.Database.{has_room}
-use Rattle.hs_histories.specs.Histories.{History, Open, commit_of, now, own}
-use Rattle.hs_histories.specs.Events.{Event, commit_by, finish, fresh, stays_open}
+use Rattle.hs_turns.specs.Database.{has_room}
+use Rattle.hs_turns.specs.Histories.{History, Open, commit_of, now, own}
+use Rattle.hs_turns.specs.Events.{Event, commit_by, finish, fresh, stays_open}
 use Rattle.hs_seams.specs.World.{World}
 use Rattle.hs_sides.specs.Sides.{side_of}
 use Rattle.hs_turns.specs.Attempts.{Empty, Fits as HasRoom, TooManyChanges, committed_own, commits_event, ending_by, ending_of, takes}

@@ -4,15 +4,15 @@ use Rattle.hs_claims.specs.declared.model.ControlKind.{ControlKind}
 use Rattle.hs_claims.specs.declared.model.ControlKind.TheVariants.{Locks}
 use Rattle.hs_claims.specs.Wants.{reads_start_of}
 use Rattle.hs_plan.specs.declared.change.Change.{Change}
-use Rattle.hs_database.specs.Database.{Database, has_room}
-use Rattle.hs_database.proofs.Applied.{committed-count}
-use Rattle.hs_histories.specs.Events.{Event, fresh}
-use Rattle.hs_histories.specs.Histories.{Commit, History, Open, base, now, own}
-use Rattle.hs_histories.specs.Language.{Stands as StandsOn}
-use Rattle.hs_histories.proofs.Fine.{Fine, fresh_fine, stands_now}
-use Rattle.hs_histories.proofs.Replay.{nothing_fine}
-use Rattle.hs_histories.proofs.Sound.{now_more, own_each}
-use Rattle.hs_histories.proofs.Whole.{Whole, whole}
+use Rattle.hs_turns.specs.Database.{Database, has_room}
+use Rattle.hs_turns.proofs.Applied.{committed-count}
+use Rattle.hs_turns.specs.Events.{Event, fresh}
+use Rattle.hs_turns.specs.Histories.{Commit, History, Open, base, now, own}
+use Rattle.hs_turns.specs.Language.{Stands as StandsOn}
+use Rattle.hs_turns.proofs.Fine.{Fine, fresh_fine, stands_now}
+use Rattle.hs_turns.proofs.Replay.{nothing_fine}
+use Rattle.hs_turns.proofs.Sound.{now_more, own_each}
+use Rattle.hs_turns.proofs.Whole.{Whole, whole}
 use Rattle.hs_seams.specs.Stores.{IsWorld, present, seen}
 use Rattle.hs_seams.specs.World.{World}
 use Rattle.hs_turns.specs.Dialect.{language_of}

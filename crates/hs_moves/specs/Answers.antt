@@ -1,7 +1,7 @@
 -- What an engine tells, and how it is left.
 use Rattle.std.specs.Prelude.{◌≡◌, Bool, List, [], ◌∷◌, ◌++◌, Option, None, codes, map}
 use Rattle.hs_base.specs.declared.numbers.CommitNo.{CommitNo}
-use Rattle.hs_histories.specs.Histories.{Commit}
+use Rattle.hs_turns.specs.Histories.{Commit}
 use Rattle.hs_lines.specs.declared.words.Words.{Words as Said}
 use Rattle.hs_lines.specs.declared.words.Words.TheVariants as said
 use Rattle.hs_plan.specs.declared.change.Change.{Change}

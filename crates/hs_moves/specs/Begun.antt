@@ -1,6 +1,6 @@
 -- What is kept behind a data statement.
 use Rattle.std.specs.Prelude.{ℕ, List}
-use Rattle.hs_histories.specs.Histories.{Commit, others, put_open}
+use Rattle.hs_turns.specs.Histories.{Commit, others, put_open}
 use Rattle.hs_seams.specs.World.{World}
 use Rattle.hs_sides.specs.Sides.{side_of}
 use Rattle.hs_turns.specs.Machine.{Machine}

@@ -4,10 +4,10 @@ use Rattle.hs_changes.specs.Changes.{count_all_inserted}
 use Rattle.hs_claims.specs.declared.claim.Claim.{Claim}
 use Rattle.hs_claims.specs.Wants.{wants_of}
 use Rattle.hs_claims.specs.declared.footprint.Footprint.{Footprint}
-use Rattle.hs_histories.specs.Histories.{Open, base, is_free, others}
-use Rattle.hs_histories.specs.Events.{said}
-use Rattle.hs_histories.specs.Language.{Outcome}
-use Rattle.hs_histories.specs.Transactions.Statement.{Data}
+use Rattle.hs_turns.specs.Histories.{Open, base, is_free, others}
+use Rattle.hs_turns.specs.Events.{said}
+use Rattle.hs_turns.specs.Language.{Outcome}
+use Rattle.hs_turns.specs.Transactions.Statement.{Data}
 use Rattle.hs_seams.specs.World.{World}
 use Rattle.hs_turns.specs.Attempts.{data_event, own_of, seen_by}
 use Rattle.hs_turns.specs.Dialect.{language_of}

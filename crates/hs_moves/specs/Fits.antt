@@ -1,7 +1,7 @@
 -- What stands for a side of a machine.
 use Rattle.std.specs.Prelude.{◌≡◌, ◌≤◌, ◌+◌, ℕ, List, length}
 use Rattle.hs_claims.specs.Session.{IsSession}
-use Rattle.hs_histories.specs.Histories.{Commit}
+use Rattle.hs_turns.specs.Histories.{Commit}
 use Rattle.hs_plan.specs.declared.change.Change.{Change}
 use Rattle.hs_seams.specs.Stores.{present}
 use Rattle.hs_seams.specs.World.{World}

@@ -1,6 +1,6 @@
 -- What an attempt comes to.
 use Rattle.std.specs.Prelude.{◌≡◌, ◌||◌, ℕ, List, ◌++◌, map}
-use Rattle.hs_histories.specs.Histories.{Commit, Open, commit_of}
+use Rattle.hs_turns.specs.Histories.{Commit, Open, commit_of}
 use Rattle.hs_plan.specs.declared.change.Change.{Change}
 use Rattle.hs_lines.specs.Told.{words_of}
 use Rattle.hs_lines.specs.declared.words.Words.{Words as Said}

@@ -1,7 +1,7 @@
 -- Entries that are refused.
 use Rattle.std.specs.Prelude.{◌≡◌, Some}
 use Rattle.hs_changes.specs.Changes.{count_all_inserted}
-use Rattle.hs_histories.specs.Histories.{Open}
+use Rattle.hs_turns.specs.Histories.{Open}
 use Rattle.hs_schema.specs.Catalogue.{Text}
 use Rattle.hs_seams.specs.World.{World}
 use Rattle.hs_turns.specs.Attempts.{seen_by}

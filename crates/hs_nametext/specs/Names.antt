@@ -1,6 +1,7 @@
 -- How names are written.
 use Rattle.std.specs.Prelude.{◌≡◌, ℕ, Bool, true, false, not, ◌==◌, ◌||◌, ◌&&◌, nat_le, if◌then◌else◌, List, [], ◌∷◌, ◌++◌, length, IsUtf8}
 use Rattle.std.specs.List.{list_all}
+use Rattle.hs_lexer.specs.Bytes.{is_digit}
 use Rattle.hs_syntax.specs.Reserved.{is_reserved}
 use Rattle.hs_valuetext.specs.Quotes.{quoted}
 use Rattle.hs_valuetext.specs.Texts.{has_control}
@@ -10,7 +11,7 @@ is_capital b = nat_le 65 b && nat_le b 90
 
 -- a capital letter, a digit or `_`
 abbrev pub is_in_word : ℕ → Bool
-is_in_word b = is_capital b || nat_le 48 b && nat_le b 57 || b == 95
+is_in_word b = is_capital b || is_digit b || b == 95
 
 -- a capital letter, and then capital letters, digits and `_`
 abbrev pub is_word : List ℕ → Bool

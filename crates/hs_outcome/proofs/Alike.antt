@@ -11,7 +11,7 @@ use Rattle.hs_changes.specs.Settings.{Maps}
 use Rattle.hs_schema.specs.Catalogue.{Things}
 use Rattle.hs_actions.specs.Referencing.{Keys}
 use Rattle.hs_answer.specs.Answer.{answer}
-use Rattle.hs_database.specs.Database.{Database}
+use Rattle.hs_turns.specs.Database.{Database}
 use Rattle.hs_dml.specs.Told.{columns_in, tentative}
 use Rattle.hs_effects.specs.Effects.{around_in}
 use Rattle.hs_exec.specs.declared.answer.Answer.{Answer}

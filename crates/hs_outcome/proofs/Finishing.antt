@@ -10,7 +10,7 @@ use Rattle.hs_plan.specs.declared.change.Change.{Change}
 use Rattle.hs_plan.specs.declared.change.Change.TheVariants as change
 use Rattle.hs_plan.specs.declared.plan.Plan.{Plan}
 use Rattle.hs_changes.specs.Settings.{Maps}
-use Rattle.hs_database.specs.Database.{Database}
+use Rattle.hs_turns.specs.Database.{Database}
 use Rattle.hs_rowlimit.specs.Long as limit
 use Rattle.hs_schema.specs.Catalogue.{Things}
 use Rattle.hs_sentences.specs.declared.violation.Violation.{Violation}
@@ -18,7 +18,7 @@ use Rattle.hs_language.specs.Outcomes.{kept_unless_long, kept_unless_violated, o
 use Rattle.hs_language.specs.Reading.{Reading, TellsTables}
 use Rattle.hs_language.specs.Validity.{puts_long}
 use Rattle.hs_language.specs.Words.{count_words, long_row_words}
-use Rattle.hs_histories.specs.Language.{Outcome}
+use Rattle.hs_turns.specs.Language.{Outcome}
 use Rattle.hs_turns.specs.Dialect.{refused_words}
 use Rattle.hs_outcome.specs.Same.{Ascend, ListsAscending, TellTheSame}
 use Rattle.hs_outcome.proofs.Ascending.{same_tables}

@@ -6,8 +6,8 @@ use Rattle.hs_plan.specs.declared.plan.Plan.{Plan}
 use Rattle.hs_values.specs.declared.value.Value.{Value}
 use Rattle.hs_schema.specs.Catalogue.{Things}
 use Rattle.hs_sentences.specs.declared.violation.Violation.{Violation}
-use Rattle.hs_database.specs.Database.{Database}
-use Rattle.hs_histories.specs.Language.{Outcome}
+use Rattle.hs_turns.specs.Database.{Database}
+use Rattle.hs_turns.specs.Language.{Outcome}
 use Rattle.hs_turns.specs.Dialect.{nothing, untouched}
 use Rattle.hs_language.specs.Outcomes.{answered, kept_unless_violated, of_changes, of_tables, refused, violated_by}
 use Rattle.hs_language.specs.Reading.{Reading}

@@ -1,7 +1,7 @@
 // What a statement gives over rows.
 ghost use Rattle.std.specs.Prelude.{◌≡◌, ℕ, true, false, Ok, IfOk};
 ghost use Rattle.hs_acting.specs.Kept.{keys_in};
-ghost use Rattle.hs_database.specs.Database.{Database};
+ghost use Rattle.hs_turns.specs.Database.{Database};
 ghost use Rattle.hs_exec.specs.Executed.{executed};
 ghost use Rattle.hs_language.specs.Outcomes.{of_plan};
 ghost use Rattle.hs_language.specs.Reading.{Reading};

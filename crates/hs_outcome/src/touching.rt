@@ -1,6 +1,6 @@
 // What a statement touches.
 ghost use Rattle.std.specs.Prelude.{◌≡◌, IfOk};
-ghost use Rattle.hs_database.specs.Database.{Database};
+ghost use Rattle.hs_turns.specs.Database.{Database};
 ghost use Rattle.hs_language.specs.Outcomes as language;
 ghost use Rattle.hs_language.specs.Reading.{Reading, TellsTables};
 ghost use Rattle.hs_turns.specs.Dialect as dialect;

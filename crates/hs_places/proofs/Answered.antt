@@ -4,9 +4,9 @@ use Rattle.std.specs.Prelude.{slice_get}
 use Rattle.hs_values.specs.declared.value.Value.{Value}
 use Rattle.hs_values.specs.declared.value.Value.TheVariants as v
 use Rattle.hs_values.specs.Outcome.{◌>>=◌}
-use Rattle.hs_function.specs.Logic.{disjunction, is_true}
-use Rattle.hs_function.specs.Numbers.{Outcome}
-use Rattle.hs_function.specs.Operators.{equal_test}
+use Rattle.hs_expression.specs.Logic.{disjunction, is_true}
+use Rattle.hs_expression.specs.Numbers.{Outcome}
+use Rattle.hs_expression.specs.Operators.{equal_test}
 use Rattle.hs_expression.specs.Forms.{exists, first_value, found_in, values_of}
 use Rattle.hs_expression.specs.Surroundings.{Rows, or_null}
 

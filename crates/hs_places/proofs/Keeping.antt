@@ -6,7 +6,7 @@ use Rattle.std.specs.List.{cons_option, filter_map}
 use Rattle.hs_values.specs.declared.fault.EvalFault.{EvalFault}
 use Rattle.hs_values.specs.declared.value.Value.{Value}
 use Rattle.hs_values.specs.Outcome.{◌>>=◌}
-use Rattle.hs_function.specs.Numbers.{Outcome}
+use Rattle.hs_expression.specs.Numbers.{Outcome}
 use Rattle.hs_answer.specs.Selects.{having_true, is_true_at}
 use Rattle.hs_expression.specs.Outcomes.{all_or_least, fault_in, value_in}
 use Rattle.hs_expression.specs.Surroundings.{Rows, Surroundings, Valued}

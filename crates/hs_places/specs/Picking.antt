@@ -2,7 +2,7 @@
 use Rattle.std.specs.Prelude.{List, [], ◌∷◌, Result, if◌then◌else◌}
 use Rattle.std.specs.List.{filter_map}
 use Rattle.hs_values.specs.declared.fault.EvalFault.{EvalFault}
-use Rattle.hs_function.specs.Numbers.{Outcome}
+use Rattle.hs_expression.specs.Numbers.{Outcome}
 use Rattle.hs_rel.specs.Selection.{fault_of, is_true, least, unless}
 
 -- those of which the outcome is TRUE

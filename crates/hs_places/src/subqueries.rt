@@ -4,8 +4,7 @@ ghost use Rattle.hs_values.specs.Order.{seen};
 ghost use Rattle.hs_expression.specs.Forms as spec;
 ghost use Rattle.hs_values.specs.declared.value.Value.TheVariants as v;
 
-use hs_expression::RowRef;
-use hs_function::{disjunction, equal_test, is_true, negated_if};
+use hs_expression::{RowRef, disjunction, equal_test, is_true, negated_if};
 use hs_values::{EvalFault, Row, RowList, Value, ValueRef};
 
 /// EXISTS: whether there is a row. Takes no memory.

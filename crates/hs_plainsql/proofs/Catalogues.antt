@@ -22,8 +22,8 @@ use Rattle.hs_sentences.specs.declared.violation.Violation.TheVariants as is
 use Rattle.hs_sentences.specs.Asking.{Test, any_of, any_row}
 use Rattle.hs_sentences.specs.Sentences.{has_gap, is_double}
 use Rattle.hs_sentences.specs.Violations.{Checks, Touched, constraints_of, first_some, orphans, violated, violation}
-use Rattle.hs_histories.specs.Each.{Each}
-use Rattle.hs_histories.proofs.Lists.{each_append}
+use Rattle.hs_turns.specs.Each.{Each}
+use Rattle.hs_turns.proofs.Lists.{each_append}
 use Rattle.hs_plainsql.specs.Naming.{are_named, are_single, is_named, is_single, names_single}
 
 -- ---- constraints

@@ -14,7 +14,7 @@ use Rattle.hs_values.specs.Outcome.{◌>>=◌}
 use Rattle.hs_actions.specs.Work.{Edits, change_of, with_actions}
 use Rattle.hs_expression.specs.Outcomes.{all_or_least}
 use Rattle.hs_tentative.specs.Statements.{Around, Numbered, for_which, name_in, of_delete, of_insert, of_update, one_updated, rows_from, with_those_of_actions}
-use Rattle.hs_database.specs.Database.{is_definition}
+use Rattle.hs_turns.specs.Database.{is_definition}
 
 abbrev pub DefineNothing : Result (List Change) EvalFault → Type 0
 DefineNothing (Ok changes) = list_any is_definition changes ≡ false

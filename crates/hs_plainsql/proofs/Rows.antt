@@ -6,7 +6,7 @@ use Rattle.hs_schema.specs.Catalogue.{Text}
 use Rattle.hs_values.specs.declared.value.Value.{Value}
 use Rattle.hs_valuetext.specs.Values.{value_text}
 use Rattle.hs_rowtext.specs.Rows.{behind_comma as comma_text, others_text}
-use Rattle.hs_histories.specs.Each.{Each}
+use Rattle.hs_turns.specs.Each.{Each}
 use Rattle.hs_language.specs.Words.{row_words}
 use Rattle.hs_plainwords.specs.Plain.{IsPlainText}
 use Rattle.hs_plainwords.proofs.Silent.{Silent, plain, unnumbered}

@@ -21,7 +21,7 @@ use Rattle.hs_sentences.specs.declared.violation.Violation.{Violation}
 use Rattle.hs_sentences.specs.declared.violation.Violation.TheVariants as is
 use Rattle.hs_answer.specs.Answer.{answer}
 use Rattle.hs_dml.specs.Told.{tentative}
-use Rattle.hs_database.specs.Database.{Database, defined, is_definition}
+use Rattle.hs_turns.specs.Database.{Database, defined, is_definition}
 use Rattle.hs_turns.specs.Dialect.{nothing}
 use Rattle.hs_language.specs.Definitions.{first_name, judged, key_referenced, makes_long, put_by, references_key, references_table, still_referenced, unless_long, unless_referenced, unless_violated, violated_by}
 use Rattle.hs_language.specs.Outcomes.{answered, around, changed, kept_unless_long, kept_unless_violated, of_changes, of_plan, of_tables, own_count, refused, violated_by as first_of}

@@ -13,14 +13,14 @@ use Rattle.hs_sessions.specs.declared.control.Control.{Control}
 use Rattle.hs_sessions.specs.declared.control.ControlReply.{ControlReply}
 use Rattle.hs_sessions.specs.declared.control.ControlReply.TheVariants as reply
 use Rattle.hs_sessions.specs.Settings.{controlled}
-use Rattle.hs_database.specs.Database.{Database, view}
-use Rattle.hs_histories.specs.Each.{Each}
-use Rattle.hs_histories.specs.Language.{Outcome}
-use Rattle.hs_histories.specs.Transactions.{session_in}
-use Rattle.hs_histories.specs.Transactions.Statement.{Data}
-use Rattle.hs_histories.specs.Histories.{Open, base, commit_of, is_free, newer, no_conflict, others}
-use Rattle.hs_histories.specs.Events.{Event, definition_commit, said}
-use Rattle.hs_histories.proofs.Lists.{each_append}
+use Rattle.hs_turns.specs.Database.{Database, view}
+use Rattle.hs_turns.specs.Each.{Each}
+use Rattle.hs_turns.specs.Language.{Outcome}
+use Rattle.hs_turns.specs.Transactions.{session_in}
+use Rattle.hs_turns.specs.Transactions.Statement.{Data}
+use Rattle.hs_turns.specs.Histories.{Open, base, commit_of, is_free, newer, no_conflict, others}
+use Rattle.hs_turns.specs.Events.{Event, definition_commit, said}
+use Rattle.hs_turns.proofs.Lists.{each_append}
 use Rattle.hs_turns.specs.Dialect.{Dialect, Request, language_of, open_transaction, refused_words}
 use Rattle.hs_turns.specs.Dialect.{Request as request}
 use Rattle.hs_turns.specs.Lines.{Words, RowOf, Replies, First, WaitsFor, listed, told}

@@ -12,18 +12,18 @@ use Rattle.hs_plan.specs.declared.change.Change.TheVariants as change
 use Rattle.hs_plan.specs.declared.definition.Definition.{Definition}
 use Rattle.hs_changes.specs.Changes.{count_all_inserted}
 use Rattle.hs_schema.specs.Catalogue.{Text, Things}
-use Rattle.hs_database.specs.Database.{Database, committed, has_room, is_definition, view}
-use Rattle.hs_database.proofs.Tables.{Frame, frame_stays}
-use Rattle.hs_histories.specs.Each.{Each}
-use Rattle.hs_histories.specs.Language.{Language, Outcome}
-use Rattle.hs_histories.specs.Transactions.{Statement}
-use Rattle.hs_histories.specs.Transactions.Statement.{Data, OnSession}
-use Rattle.hs_histories.specs.Histories.{Open, Commit, History, base, commit_of, is_free, make, newer, no_conflict, now, others, own, state}
-use Rattle.hs_histories.specs.Events.{Act, Event, begun, by_act, commit, commit_by, define, define_by, defines, definition_commit, finish, fresh, judged, said, says, stays_open, step}
-use Rattle.hs_histories.specs.Events.Act.{Begins, Says, Commits, Leaves, Defines}
-use Rattle.hs_histories.proofs.Kept.{Kept, answered_kept, control_kept}
-use Rattle.hs_histories.proofs.Lists.{each_filter, each_put}
-use Rattle.hs_histories.proofs.Sound.{now_more, own_each, state_more, state_now}
+use Rattle.hs_turns.specs.Database.{Database, committed, has_room, is_definition, view}
+use Rattle.hs_turns.proofs.Tables.{Frame, frame_stays}
+use Rattle.hs_turns.specs.Each.{Each}
+use Rattle.hs_turns.specs.Language.{Language, Outcome}
+use Rattle.hs_turns.specs.Transactions.{Statement}
+use Rattle.hs_turns.specs.Transactions.Statement.{Data, OnSession}
+use Rattle.hs_turns.specs.Histories.{Open, Commit, History, base, commit_of, is_free, make, newer, no_conflict, now, others, own, state}
+use Rattle.hs_turns.specs.Events.{Act, Event, begun, by_act, commit, commit_by, define, define_by, defines, definition_commit, finish, fresh, judged, said, says, stays_open, step}
+use Rattle.hs_turns.specs.Events.Act.{Begins, Says, Commits, Leaves, Defines}
+use Rattle.hs_turns.proofs.Kept.{Kept, answered_kept, control_kept}
+use Rattle.hs_turns.proofs.Lists.{each_filter, each_put}
+use Rattle.hs_turns.proofs.Sound.{now_more, own_each, state_more, state_now}
 use Rattle.hs_turns.specs.Dialect.{Dialect, Request, accepted, language_of, nothing, open_transaction, outcome_of, refused, unless_refused}
 use Rattle.hs_turns.specs.Dialect.{Request as request}
 use Rattle.hs_plainwords.specs.Dialects.{IsPlainDialect, IsPlainOutcome, IsPlainRequest}

@@ -4,7 +4,7 @@ use Rattle.std.proofs.lemmas.List.Elements.{Contains-append_left, Contains-appen
 use Rattle.hs_machine.specs.Acknowledged.{Acknowledges, AcknowledgesLines, EndsLine}
 use Rattle.hs_machine.specs.Lines.{committed_text}
 use Rattle.hs_schema.specs.Catalogue.{Text}
-use Rattle.hs_histories.specs.Each.{Each}
+use Rattle.hs_turns.specs.Each.{Each}
 use Rattle.hs_turns.specs.Laws.{commit_told, commits_told}
 use Rattle.hs_turns.specs.Lines.{Line, line_text, printed}
 use Rattle.hs_plainwords.specs.Plain.{IsPlainLine, IsUpTo}

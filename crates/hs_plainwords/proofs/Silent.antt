@@ -12,7 +12,7 @@ use Rattle.hs_machine.specs.Acknowledged.{is_digit, last_word}
 use Rattle.hs_machine.specs.Lines.{committed_text}
 use Rattle.hs_machine.proofs.Acknowledged.{all_lack, decimal_lacks, lacks-append, last_alone}
 use Rattle.hs_schema.specs.Catalogue.{Text}
-use Rattle.hs_histories.specs.Each.{Each}
+use Rattle.hs_turns.specs.Each.{Each}
 use Rattle.hs_turns.specs.Lines.{Words, RowOf, Replies, First, WaitsFor, OfItem, EndOf, listed}
 use Rattle.hs_plainwords.specs.Plain.{IsPlainText, IsUpTo, IsPlainLine}
 use Rattle.hs_plainwords.proofs.Bytes.{begins_digit, behind_colon, committed_lacks, last_behind, no_number, other_word, told_number}

@@ -10,9 +10,9 @@ use Rattle.hs_entries.specs.Parts.{lacks}
 use Rattle.hs_machine.specs.Acknowledged.{AcknowledgesLines}
 use Rattle.hs_schema.specs.Catalogue.{Text, Things}
 use Rattle.hs_sessions.specs.Book.{number_from}
-use Rattle.hs_database.specs.Database.{Database}
-use Rattle.hs_histories.specs.Each.{Each}
-use Rattle.hs_histories.proofs.Lists.{each_append}
+use Rattle.hs_turns.specs.Database.{Database}
+use Rattle.hs_turns.specs.Each.{Each}
+use Rattle.hs_turns.proofs.Lists.{each_append}
 use Rattle.hs_turns.specs.Dialect.{Dialect, refused_words}
 use Rattle.hs_turns.specs.Lines.{Words, Line, OfItem, Replies, no_session, printed}
 use Rattle.hs_turns.specs.Waiting.{Entry, ascending, is_waiting}

@@ -4,9 +4,9 @@ use Rattle.std.specs.List.{list_any}
 use Rattle.std.specs.Str.{is_utf8}
 use Rattle.hs_plan.specs.declared.definition.Definition.{Definition}
 use Rattle.hs_schema.specs.Catalogue.{Text, Things, after}
-use Rattle.hs_database.specs.Database.{Database, is_definition}
-use Rattle.hs_histories.specs.Each.{Each}
-use Rattle.hs_histories.specs.Language.{Outcome}
+use Rattle.hs_turns.specs.Database.{Database, is_definition}
+use Rattle.hs_turns.specs.Each.{Each}
+use Rattle.hs_turns.specs.Language.{Outcome}
 use Rattle.hs_turns.specs.Attempts.{savepoint_of}
 use Rattle.hs_turns.specs.Dialect.{Dialect, Request}
 use Rattle.hs_turns.specs.Dialect.{Request as request}

@@ -1,9 +1,9 @@
 //! Laws of what turns tell, each on a function that does nothing. They hold of every dialect that is plain over the
 //! catalogues of a run.
 ghost use Rattle.std.specs.Prelude.{◌≡◌, ℕ, ◌+◌, ◌≤◌, Bool, true, List, length, Some};
-ghost use Rattle.hs_database.specs.Database.{Database};
+ghost use Rattle.hs_turns.specs.Database.{Database};
 ghost use Rattle.hs_entries.specs.declared.item.Item.{Item};
-ghost use Rattle.hs_histories.specs.Each.{Each};
+ghost use Rattle.hs_turns.specs.Each.{Each};
 ghost use Rattle.hs_machine.specs.Acknowledged.{Acknowledges, AcknowledgesLines};
 ghost use Rattle.hs_plainwords.specs.Dialects.{IsPlainDialect};
 ghost use Rattle.hs_plainwords.specs.Plain.{IsPlainLine, IsUpTo, are_called};

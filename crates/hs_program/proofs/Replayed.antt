@@ -5,7 +5,7 @@ use Rattle.hs_log.proofs.Logs.{log_parts}
 use Rattle.hs_program.specs.Crash.{GivesSame}
 use Rattle.hs_program.specs.Lawful.{IsLawful, IsSound}
 use Rattle.hs_program.specs.Meaning.{Meaning, Opened, nothing_logged}
-use Rattle.hs_program.specs.Opening.{AreRedone, HasFirstEpoch, IsMade, IsOpened, texts_at}
+use Rattle.hs_program.specs.Opening.{AreMadeOnly, AreRedone, HasFirstEpoch, IsMade, IsOpened, MakesOnly, texts_at}
 
 pub unborn_texts : (log : List ℕ) → is_born log ≡ false → texts_at log ≡ []
 unborn_texts log unborn = ap (λ b. cond b (texts_of log) []) unborn
@@ -29,17 +29,31 @@ module _ (m : Meaning) where
   redone_apart [] more o q all = (o, refl, all)
   redone_apart (t ∷ ts) more o q all = let rest = redone_apart ts more all.0 q all.2 in (rest.0, (all.0, all.1, rest.1), rest.2)
 
-  -- one more is made again
-  pub redone_more : (ts : List (List ℕ)) (t : List ℕ) (o p q : Opened) → AreRedone m o ts p → m.Redone p t q → AreRedone m o (ts ++ t ∷ []) q
-  redone_more ts t o p q first one = redone_behind ts (t ∷ []) o p q first (q, one, refl)
+  -- ---- texts that make one thing alone
+
+  pub only_redone : (ts : List (List ℕ)) (o p : Opened) → AreMadeOnly m o ts p → AreRedone m o ts p
+  only_redone [] o p is = is
+  only_redone (t ∷ ts) o p is = (is.0, is.1.made, only_redone ts is.0 p is.2)
+
+  -- whatever they make is this
+  only_is : (ts : List (List ℕ)) (o p q : Opened) → AreMadeOnly m o ts p → AreRedone m o ts q → q ≡ p
+  only_is [] o p q only made = made ∙ sym only
+  only_is (t ∷ ts) o p q only made = only_is ts only.0 p q only.2 (subst (λ x. AreRedone m x ts q) (only.1.only made.0 made.1) made.2)
+
+  pub only_one : (ts : List (List ℕ)) (o p a b : Opened) → AreMadeOnly m o ts p → AreRedone m o ts a → AreRedone m o ts b → a ≡ b
+  only_one ts o p a b only one other = only_is ts o p a only one ∙ sym (only_is ts o p b only other)
+
+  -- so do the first ones of them
+  pub only_first : (ts more : List (List ℕ)) (o q : Opened) → AreMadeOnly m o (ts ++ more) q → (p : Opened) × AreMadeOnly m o ts p
+  only_first [] more o q all = (o, refl)
+  only_first (t ∷ ts) more o q all = let rest = only_first ts more all.0 q all.2 in (rest.0, (all.0, all.1, rest.1))
+
+  -- and one more
+  pub only_more : (ts : List (List ℕ)) (t : List ℕ) (o p q : Opened) → AreMadeOnly m o ts p → MakesOnly m p t q → AreMadeOnly m o (ts ++ t ∷ []) q
+  only_more [] t o p q first one = (q, subst (λ x. MakesOnly m x t q) first one, refl)
+  only_more (s ∷ ts) t o p q first one = (first.0, first.1, only_more ts t first.0 p q first.2 one)
 
   module _ (law : IsLawful m) where
-    -- texts make one thing at most
-    pub redone_one : (ts : List (List ℕ)) (o p q : Opened) → AreRedone m o ts p → AreRedone m o ts q → p ≡ q
-    redone_one [] o p q a b = a ∙ sym b
-    redone_one (t ∷ ts) o p q a b =
-        redone_one ts b.0 p q (subst (λ x. AreRedone m x ts p) (law.one o a.0 b.0 t a.1 b.1) a.2) b.2
-
     -- there are as many commits as texts
     pub counted : (ts : List (List ℕ)) (o p : Opened) → AreRedone m o ts p → p.commits ≡ o.commits + length ts
     counted [] o p is = let same : p.commits ≡ o.commits = ap (λ x. x.commits) is in omega (arith, same)
@@ -63,13 +77,14 @@ module _ (m : Meaning) where
   pub opened_sound : (log : List ℕ) (opened : Opened) → IsOpened m log opened → IsSound m opened
   opened_sound log opened is = record { reached = (texts_at log, is.made.made); valid = is.valid }
 
+  -- one that isn't born has no texts
+  pub unborn_only : (log : List ℕ) → is_born log ≡ false → AreMadeOnly m (nothing_logged m) (texts_at log) (nothing_logged m)
+  unborn_only log unborn = subst (λ ts. AreMadeOnly m (nothing_logged m) ts (nothing_logged m)) (sym (unborn_texts log unborn)) refl
+
+  unborn_one : (log : List ℕ) (opened : Opened) → is_born log ≡ false → IsMade m log opened → opened ≡ nothing_logged m
+  unborn_one log opened unborn is = subst (λ ts. AreRedone m (nothing_logged m) ts opened) (unborn_texts log unborn) is.made
+
   module _ (law : IsLawful m) where
-    pub made_one : (log : List ℕ) (a b : Opened) → IsMade m log a → IsMade m log b → a ≡ b
-    made_one log a b one other = redone_one law (texts_at log) (nothing_logged m) a b one.made other.made
-
-    pub opened_one : (log : List ℕ) (a b : Opened) → IsOpened m log a → IsOpened m log b → a ≡ b
-    opened_one log a b one other = made_one log a b one.made other.made
-
     pub unborn_gives : (log : List ℕ) → is_born log ≡ false → IsOpened m log (nothing_logged m)
     unborn_gives log unborn = record {
       made = record {
@@ -84,6 +99,6 @@ module _ (m : Meaning) where
     pub new_same : (old new : List ℕ) → is_born old ≡ false → IsWholeLog 1 [] new → GivesSame m old new
     new_same old new unborn whole =
         let parts = log_parts 1 [] new whole.log in (
-          λ opened is. subst (IsOpened m new) (opened_one old (nothing_logged m) opened (unborn_gives old unborn) is) (log_gives new [] (nothing_logged m) whole.log refl law.starts),
+          λ opened is. subst (IsOpened m new) (sym (unborn_one old opened unborn is.made)) (log_gives new [] (nothing_logged m) whole.log refl law.starts),
           born_texts new parts.0 ∙ parts.2 ∙ sym (unborn_texts old unborn),
         )

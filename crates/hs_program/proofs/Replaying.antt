@@ -6,20 +6,20 @@ use Rattle.hs_host.specs.Used.{Told}
 use Rattle.hs_log.specs.Log.{is_broken}
 use Rattle.hs_log.specs.LogReading.{count_in, left_in}
 use Rattle.hs_log.specs.declared.log_reader.LogReader.{LogReader}
-use Rattle.hs_program.specs.Damaged.{IsFirstDamage}
+use Rattle.hs_program.specs.Damaged.{IsOnlyDamage}
 use Rattle.hs_program.specs.Lawful.{IsLawful, IsStanding}
 use Rattle.hs_program.specs.Meaning.{Meaning, Opened, nothing_logged}
-use Rattle.hs_program.specs.Opening.{AreRedone}
+use Rattle.hs_program.specs.Opening.{AreMadeOnly, IsReached, MakesOnly}
 use Rattle.hs_program.specs.Run.{AllMade, MakeInvalid, Redoes}
-use Rattle.hs_program.proofs.Replayed.{counted, redone_more}
+use Rattle.hs_program.proofs.Replayed.{counted, only_more, only_redone}
 
 module _ {E H : Type 0} (m : Meaning) (stands_for : E → Opened → Type 0) (s : source.Ghosts H) (g : host.Ghosts H) (reader : LogReader) (old : H) where
-  -- an engine stands for what the texts made that were read so far
+  -- an engine stands for what the texts made that were read so far, and they made nothing else
   pub record IsReplaying (now : LogReader) (engine : E) : Type 0 where
     pub opened : Opened
     pub stands : stands_for engine opened
     pub texts : List (List ℕ)
-    pub made : AreRedone m (nothing_logged m) texts opened
+    pub made : AreMadeOnly m (nothing_logged m) texts opened
     pub counted : length texts ≡ count_in now
     pub so_far : Told s g old → texts ++ left_in now (g.files old).log ≡ left_in reader (g.files old).log
 
@@ -34,33 +34,39 @@ module _ {E H : Type 0} (m : Meaning) (stands_for : E → Opened → Type 0) (s 
   }
 
   module _ (now : LogReader) (engine : E) (r : IsReplaying now engine) where
+    abbrev reached : IsReached m r.opened
+    reached = (r.texts, only_redone m r.texts (nothing_logged m) r.opened r.made)
+
     abbrev pub standing : IsStanding m stands_for engine
-    standing = record { opened = r.opened; stands = r.stands; reached = (r.texts, r.made) }
+    standing = record { opened = r.opened; stands = r.stands; reached = reached }
 
     pub so_many : IsLawful m → r.opened.commits ≡ count_in now
-    so_many law = omega (arith, counted m law r.texts (nothing_logged m) r.opened r.made, r.counted)
+    so_many law = omega (arith, counted m law r.texts (nothing_logged m) r.opened reached.1, r.counted)
 
     -- one more was made again
-    pub replaying_on : (new : LogReader) (after : E) (text : List ℕ) (next : Opened) → m.Redone r.opened text next → stands_for after next → count_in new ≡ count_in now + 1
+    pub replaying_on : (new : LogReader) (after : E) (text : List ℕ) (next : Opened) → MakesOnly m r.opened text next → stands_for after next → count_in new ≡ count_in now + 1
         → (Told s g old → left_in now (g.files old).log ≡ text ∷ left_in new (g.files old).log) → IsReplaying new after
     replaying_on new after text next made stands count takes = record {
       opened = next;
       stands = stands;
       texts = r.texts ++ text ∷ [];
-      made = redone_more m r.texts text (nothing_logged m) r.opened next r.made made;
+      made = only_more m r.texts text (nothing_logged m) r.opened next r.made made;
       counted = omega (arith, length-append r.texts (text ∷ []), r.counted, count);
       so_far = λ told. append_assoc r.texts (text ∷ []) (left_in new (g.files old).log) ∙ ap (λ ts. r.texts ++ ts) (sym (takes told)) ∙ r.so_far told;
     }
 
     -- one can't be
     pub replaying_stops : (text : List ℕ) (rest : List (List ℕ)) (number : ℕ) → ((next : Opened) → ¬ (m.Redone r.opened text next)) → number ≡ count_in now + 1 → Told s g old
-        → left_in now (g.files old).log ≡ text ∷ rest → IsFirstDamage m (left_in reader (g.files old).log) (is_broken (g.files old).log) number
+        → left_in now (g.files old).log ≡ text ∷ rest → IsOnlyDamage m (left_in reader (g.files old).log) (is_broken (g.files old).log) number
     replaying_stops text rest number none count told takes = record {
-      good = r.texts;
-      opened = r.opened;
-      count = omega (arith, r.counted, count);
-      made = r.made;
-      next = inl (record { text = text; rest = rest; is = sym (r.so_far told) ∙ ap (λ ts. r.texts ++ ts) takes; none = none });
+      first = record {
+        good = r.texts;
+        opened = r.opened;
+        count = omega (arith, r.counted, count);
+        made = reached.1;
+        next = inl (record { text = text; rest = rest; is = sym (r.so_far told) ∙ ap (λ ts. r.texts ++ ts) takes; none = none });
+      };
+      only = r.made;
     }
 
     -- where none is left, these were all
@@ -69,24 +75,27 @@ module _ {E H : Type 0} (m : Meaning) (stands_for : E → Opened → Type 0) (s 
 
     -- one behind them isn't whole
     pub replaying_breaks : (number : ℕ) → number ≡ count_in now + 1 → Told s g old → left_in now (g.files old).log ≡ [] → is_broken (g.files old).log ≡ true
-        → IsFirstDamage m (left_in reader (g.files old).log) (is_broken (g.files old).log) number
+        → IsOnlyDamage m (left_in reader (g.files old).log) (is_broken (g.files old).log) number
     replaying_breaks number count told none breaks = record {
-      good = r.texts;
-      opened = r.opened;
-      count = omega (arith, r.counted, count);
-      made = r.made;
-      next = inr (all_read told none, breaks);
+      first = record {
+        good = r.texts;
+        opened = r.opened;
+        count = omega (arith, r.counted, count);
+        made = reached.1;
+        next = inr (all_read told none, breaks);
+      };
+      only = r.made;
     }
 
     -- all were
     all_made : Told s g old → (left_in now (g.files old).log ≡ []) × (is_broken (g.files old).log ≡ false) → AllMade m reader (g.files old).log r.opened
-    all_made told ends = (subst (λ ts. AreRedone m (nothing_logged m) ts r.opened) (sym (all_read told ends.0)) r.made, ends.1)
+    all_made told ends = (subst (λ ts. AreMadeOnly m (nothing_logged m) ts r.opened) (sym (all_read told ends.0)) r.made, ends.1)
 
     pub replaying_ends : m.violated r.opened ≡ None → (Told s g old → (left_in now (g.files old).log ≡ []) × (is_broken (g.files old).log ≡ false)) → Redoes m stands_for s g reader old engine
     replaying_ends valid ends = record {
       opened = r.opened;
       stands = r.stands;
-      sound = record { reached = (r.texts, r.made); valid = valid };
+      sound = record { reached = reached; valid = valid };
       is = λ told. all_made told (ends told);
     }
 

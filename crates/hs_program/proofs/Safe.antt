@@ -22,7 +22,7 @@ use Rattle.hs_program.specs.Lawful.{IsLawful}
 use Rattle.hs_program.specs.Meaning.{Meaning, Opened, nothing_logged}
 use Rattle.hs_program.specs.Opening.{AreRedone, IsOpened, size_at, texts_at}
 use Rattle.hs_program.proofs.Openings.{same_gives}
-use Rattle.hs_program.proofs.Replayed.{born_texts, counted, log_gives, new_same, opened_sound, redone_apart, redone_behind, unborn_gives}
+use Rattle.hs_program.proofs.Replayed.{born_texts, counted, log_gives, new_same, opened_sound, redone_behind, unborn_gives}
 
 -- how many bytes stand in a log that is kept, with the texts of an old one
 pub size_is : (h : History) (files : Five (List ℕ)) (log : Kept) (old : List ℕ) → IsLog h files log → texts_in files ≡ texts_at old → size_in log ≡ size_at old
@@ -100,10 +100,10 @@ module _ (m : Meaning) where
     all_made : (old : List ℕ) (opened : Opened) (input : List ℕ) → IsOpened m old opened → AreRedone m opened (texts_from (ahead m old opened) input) (ended_with m old opened input)
     all_made old opened input is = law.remade opened (size_at old) (opened_sound m old opened is) (items 1 input) (items_told 1 input)
 
-    -- and so can its first ones, and what they make violates nothing
-    front_valid : (old : List ℕ) (opened : Opened) (input : List ℕ) → IsOpened m old opened → (front rest : List (List ℕ)) (next : Opened) → texts_from (ahead m old opened) input ≡ front ++ rest → AreRedone m opened front next
-        → m.violated next ≡ None
-    front_valid old opened input is front rest next all made = law.valid opened (size_at old) (opened_sound m old opened is) (items 1 input) (items_told 1 input) front rest next all made
+    -- and so can its first ones, and make something that violates nothing
+    front_valid : (old : List ℕ) (opened : Opened) (input : List ℕ) → IsOpened m old opened → (front rest : List (List ℕ)) → texts_from (ahead m old opened) input ≡ front ++ rest
+        → (next : Opened) × (AreRedone m opened front next × (m.violated next ≡ None))
+    front_valid old opened input is front rest all = law.valid opened (size_at old) (opened_sound m old opened is) (items 1 input) (items_told 1 input) front rest all
 
     -- and a log of that gives what there is when it has ended
     pub reopened : (old new : List ℕ) (opened : Opened) (input : List ℕ) → IsOpened m old opened → IsWholeLog 1 (texts_at old ++ texts_from (ahead m old opened) input) new → IsOpened m new (ended_with m old opened input)
@@ -112,22 +112,21 @@ module _ (m : Meaning) where
         let end = ended_with m old opened input in
         let made = all_made old opened input is in
         log_gives m new (texts_at old ++ all) end whole.log (redone_behind m (texts_at old) all (nothing_logged m) opened end is.made.made made)
-        (front_valid old opened input is all [] end (sym (append-nil all)) made)
+        (law.ends opened (size_at old) (opened_sound m old opened is) (items 1 input) (items_told 1 input))
 
     -- such a log survives: it has the first so many commits of the run
     survives : (old : List ℕ) (opened : Opened) (input before out log : List ℕ) → IsOpened m old opened
         → Holds (length (texts_at old)) (texts_at old ++ texts_from (ahead m old opened) input) before out log → Survives m old opened input before out log
     survives old opened input before out log is held =
         let all = texts_from (ahead m old opened) input in
-        let end = ended_with m old opened input in
         let parts = log_parts 1 held.texts log held.is in
         let split = split_front held.texts held.rest (texts_at old) all held.prefix held.enough in
         let front = split.0 in
         let taken : take (length front) all ≡ front = ap (λ ts. take (length front) ts) (sym split.1.1) ∙ take-append_seam front held.rest in
-        let apart = redone_apart m front held.rest opened end (subst (λ ts. AreRedone m opened ts end) (sym split.1.1) (all_made old opened input is)) in
-        let state = apart.0 in
+        let valid = front_valid old opened input is front held.rest (sym split.1.1) in
+        let state = valid.0 in
         let behind : AreRedone m (nothing_logged m) held.texts state =
-        subst (λ ts. AreRedone m (nothing_logged m) ts state) (sym split.1.0) (redone_behind m (texts_at old) front (nothing_logged m) opened state is.made.made apart.1) in
+        subst (λ ts. AreRedone m (nothing_logged m) ts state) (sym split.1.0) (redone_behind m (texts_at old) front (nothing_logged m) opened state is.made.made valid.1.0) in
         record {
           by = record {
             count = length front;
@@ -136,8 +135,8 @@ module _ (m : Meaning) where
             is = ap (λ (l : List (List ℕ)). record { epoch = 1; logged = l }) (born_texts log parts.0 ∙ parts.2 ∙ split.1.0 ∙ ap (λ ts. texts_at old ++ ts) (sym taken));
           };
           state = state;
-          made = subst (λ ts. AreRedone m opened ts state) (sym taken) apart.1;
-          reopens = log_gives m log held.texts state held.is behind (front_valid old opened input is front held.rest state (sym split.1.1) apart.1);
+          made = subst (λ ts. AreRedone m opened ts state) (sym taken) valid.1.0;
+          reopens = log_gives m log held.texts state held.is behind valid.1.1;
           told = subst (AcknowledgesBehind before out) (let n : length held.texts ≡ state.commits = omega (arith, counted m law held.texts (nothing_logged m) state behind) in n) held.told;
           begun = λ none. omega (arith, held.begun none, ap length split.1.0, length-append (texts_at old) front);
         }

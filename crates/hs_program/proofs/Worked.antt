@@ -22,7 +22,7 @@ use Rattle.hs_program.specs.declared.fault.OpenFault.TheVariants as fault
 use Rattle.hs_program.specs.declared.status.Status.{Status}
 use Rattle.hs_program.specs.declared.status.Status.TheVariants.{Done, Usage, InputFault, OutputFault, DiskFault, NoMemory, Damaged, InputTooLong}
 use Rattle.hs_program.specs.Ahead.{ahead, all_told, ended_with, told_within, texts_from}
-use Rattle.hs_program.specs.Damaged.{IsDamagedAt}
+use Rattle.hs_program.specs.Damaged.{GivesOneAlone, IsDamagedAlone, IsDamagedAt, IsInvalidAlone}
 use Rattle.hs_program.specs.Crash.{IsFound, IsKept, IsQuiet, IsSafe, Survives}
 use Rattle.hs_program.specs.Lawful.{IsLawful}
 use Rattle.hs_program.specs.Meaning.{Meaning, Opened, nothing_logged}
@@ -30,8 +30,7 @@ use Rattle.hs_program.specs.Opening.{IsInvalid, IsOpened, texts_at}
 use Rattle.hs_program.specs.Run.{HasLog, Runs}
 use Rattle.hs_program.specs.Stop.{TellsDamage, is_damaged, stopped, unopened}
 use Rattle.hs_program.proofs.Openings.{same_gives}
-use Rattle.hs_program.proofs.Damaged.{damaged_one, invalid_one, invalid_undamaged, opened_undamaged, opened_valid}
-use Rattle.hs_program.proofs.Replayed.{opened_one, unborn_gives}
+use Rattle.hs_program.proofs.Replayed.{unborn_gives}
 use Rattle.hs_program.proofs.Stops.{is_idle}
 use Rattle.hs_program.proofs.Safe.{born_safe, found_kept, held_opened, left_now, reopened, safe, safe_now, same_survives, start_safe, unborn_or_new}
 
@@ -144,6 +143,7 @@ module _ (m : Meaning) (law : IsLawful m) (files : Five (List ℕ)) (input befor
   idle_runs status idle = record {
     front = λ opened is. nothing_yet before _;
     opened_first = quiet_never status before before refl (λ done. absurd (idle_never status Done idle refl done)) (λ long. absurd (idle_never status InputTooLong idle refl long));
+    opened_alone = quiet_never status before before refl (λ done. absurd (idle_never status Done idle refl done)) (λ long. absurd (idle_never status InputTooLong idle refl long));
     done = λ opened is done. absurd (idle_never status Done idle refl done);
     before_too_long = λ opened is long. absurd (idle_never status InputTooLong idle refl long);
     log = λ opened is done. absurd (idle_never status Done idle refl done);
@@ -155,10 +155,12 @@ module _ (m : Meaning) (law : IsLawful m) (files : Five (List ℕ)) (input befor
     begun = λ unborn. inl unborn;
     alone = λ quiet. since_none _ start;
     damaged = λ number is. absurd (idle_never status (Damaged (Log number)) idle refl is);
+    damaged_alone = λ number is. absurd (idle_never status (Damaged (Log number)) idle refl is);
     damage = λ number is. idle_as status (Log number) idle;
     damaged_silent = λ number is. refl;
     damaged_kept = λ number is. refl;
     invalid = λ name is. absurd (idle_never status (Damaged (Invalid name)) idle refl is);
+    invalid_alone = λ name is. absurd (idle_never status (Damaged (Invalid name)) idle refl is);
     violation = λ name is. idle_as status (Invalid name) idle;
     invalid_silent = λ name is. refl;
     invalid_kept = λ name is. refl;
@@ -169,7 +171,8 @@ module _ (m : Meaning) (law : IsLawful m) (files : Five (List ℕ)) (input befor
   module _ (after : Five (List ℕ)) (out : List ℕ) (now : History) (last : now.now.out ≡ out) (leaves : Leaves (disk_of now.now LogFile) after.log) where
     -- the log couldn't be opened
     module _ (why : OpenFault) (told : out ≡ before) (others : OnlyLog files after) (found : IsQuiet files start.now → Since (IsFound m files start.now) start now) (alone : Since (IsLater start.now) start now)
-        (damaged : (number : ℕ) → why ≡ fault.Damaged number → IsDamagedAt m files.log number × (after ≡ files)) (invalid : (name : List ℕ) → why ≡ fault.Invalid name → IsInvalid m files.log name × (after ≡ files))
+        (damaged : (number : ℕ) → why ≡ fault.Damaged number → IsDamagedAt m files.log number × IsDamagedAlone m files.log number × (after ≡ files))
+        (invalid : (name : List ℕ) → why ≡ fault.Invalid name → IsInvalid m files.log name × IsInvalidAlone m files.log name × (after ≡ files))
         (kept : ((number : ℕ) → IsDamagedAt m files.log number → after ≡ files) × ((name : List ℕ) → IsInvalid m files.log name → after ≡ files)) (begun : is_born files.log ≡ false → IsUnbornOrNew after.log) where
       unopened_crash : IsQuiet files start.now → (opened : Opened) → IsOpened m files.log opened → Since (IsKept m files opened input before start.now) start now
       unopened_crash quiet opened is = since_weaker (found quiet) (λ at. found_kept m files opened input before start.now at is first)
@@ -177,32 +180,33 @@ module _ (m : Meaning) (law : IsLawful m) (files : Five (List ℕ)) (input befor
       unopened_safe : IsQuiet files start.now → (opened : Opened) → IsOpened m files.log opened → HasLog files.log (unopened why) → IsSafe m files.log opened input before now.now
       unopened_safe quiet opened is (inl born) = born_safe m files opened input before start now is born quiet first (unopened_crash quiet opened is)
       unopened_safe quiet opened is (inr other) = elim (damage_of why other.0 other.1) [
-        | inl by ↦ absurd (opened_undamaged m law files.log opened by.0 is (damaged by.0 by.1).0)
-        | inr by ↦ absurd (opened_valid m law files.log by.0 opened is (invalid by.0 by.1).0)
+        | inl by ↦ absurd ((damaged by.0 by.1).1.nothing opened is)
+        | inr by ↦ absurd ((invalid by.0 by.1).1.nothing opened is)
       ]
 
       damaged_told : (w : OpenFault) → why ≡ w → (number : ℕ) → IsDamagedAt m files.log number → TellsDamage (Log number) (unopened w)
       damaged_told fault.Disk w number is = inr (inr (inr (inl refl)))
-      damaged_told (fault.Damaged n) w number is = inr (inr (inl (ap (λ (k : ℕ). Damaged (Log k)) (damaged_one m law files.log n number (damaged n w).0 is))))
-      damaged_told (fault.Invalid n) w number is = absurd (invalid_undamaged m law files.log n number (invalid n w).0 is)
+      damaged_told (fault.Damaged n) w number is = inr (inr (inl (ap (λ (k : ℕ). Damaged (Log k)) (sym ((damaged n w).1.one number is)))))
+      damaged_told (fault.Invalid n) w number is = absurd ((invalid n w).1.whole number is)
       damaged_told fault.NoMemory w number is = inr (inr (inr (inr refl)))
 
       invalid_told : (w : OpenFault) → why ≡ w → (name : List ℕ) → IsInvalid m files.log name → TellsDamage (Invalid name) (unopened w)
       invalid_told fault.Disk w name is = inr (inr (inr (inl refl)))
-      invalid_told (fault.Damaged n) w name is = absurd (invalid_undamaged m law files.log name n is (damaged n w).0)
-      invalid_told (fault.Invalid n) w name is = inr (inr (inl (ap (λ (k : List ℕ). Damaged (Invalid k)) (invalid_one m law files.log n name (invalid n w).0 is))))
+      invalid_told (fault.Damaged n) w name is = absurd ((damaged n w).1.valid name is)
+      invalid_told (fault.Invalid n) w name is = inr (inr (inl (ap (λ (k : List ℕ). Damaged (Invalid k)) (sym ((invalid n w).1.one name is)))))
       invalid_told fault.NoMemory w name is = inr (inr (inr (inr refl)))
 
       untouched : (w : OpenFault) → why ≡ w → is_damaged (unopened w) ≡ true → after ≡ files
       untouched fault.Disk w is = absurd (cc)
-      untouched (fault.Damaged n) w is = (damaged n w).1
-      untouched (fault.Invalid n) w is = (invalid n w).1
+      untouched (fault.Damaged n) w is = (damaged n w).2
+      untouched (fault.Invalid n) w is = (invalid n w).2
       untouched fault.NoMemory w is = absurd (cc)
 
       pub unopened_runs : Runs m files input before start after out now (unopened why)
       unopened_runs = record {
         front = λ opened is. subst (λ (o : List ℕ). WritesPrefix before o (all_told (ahead m files.log opened) input)) (sym told) (nothing_yet before _);
         opened_first = quiet_never (unopened why) before out told (unopened_done why) (unopened_long why);
+        opened_alone = quiet_never (unopened why) before out told (unopened_done why) (unopened_long why);
         done = λ opened is done. absurd (unopened_done why done);
         before_too_long = λ opened is long. absurd (unopened_long why long);
         log = λ opened is done. absurd (unopened_done why done);
@@ -214,10 +218,12 @@ module _ (m : Meaning) (law : IsLawful m) (files : Five (List ℕ)) (input befor
         begun = λ unborn. unborn_or_new m law files.log input before out after.log unborn told (begun unborn);
         alone = λ quiet. alone;
         damaged = λ number is. (damaged number (damaged_as why number is)).0;
+        damaged_alone = λ number is. (damaged number (damaged_as why number is)).1;
         damage = damaged_told why refl;
         damaged_silent = λ number is. told;
         damaged_kept = kept.0;
         invalid = λ name is. (invalid name (invalid_as why name is)).0;
+        invalid_alone = λ name is. (invalid name (invalid_as why name is)).1;
         violation = invalid_told why refl;
         invalid_silent = λ name is. told;
         invalid_kept = kept.1;
@@ -225,7 +231,7 @@ module _ (m : Meaning) (law : IsLawful m) (files : Five (List ℕ)) (input befor
       }
 
     -- turns were taken behind an opening
-    module _ (opened : Opened) (is : IsOpened m files.log opened) (mid : History) (between : Five (List ℕ)) (kept : Kept) (log : IsLog mid between kept) (epoch : epoch_in kept ≡ 1)
+    module _ (opened : Opened) (is : IsOpened m files.log opened) (gives : GivesOneAlone m files.log) (mid : History) (between : Five (List ℕ)) (kept : Kept) (log : IsLog mid between kept) (epoch : epoch_in kept ≡ 1)
         (texts : texts_in between ≡ texts_at files.log) (told : mid.now.out ≡ before) (only : OnlyLog files between) (found : IsQuiet files start.now → Since (IsFound m files start.now) start mid)
         (alone : Since (IsLater start.now) start mid) (status : Status)
         (turned : Turned (ahead m files.log opened) (texts_at files.log) input before between mid after out now status) where
@@ -246,39 +252,42 @@ module _ (m : Meaning) (law : IsLawful m) (files : Five (List ℕ)) (input befor
 
       -- what the log gives is this
       same : (o : Opened) → IsOpened m files.log o → opened ≡ o
-      same o gives = opened_one m law files.log opened o is gives
+      same o there = gives.one opened o is there
 
       whole : {A : Type 0} (number : ℕ) → IsDamagedAt m files.log number → A
-      whole number damaged = absurd (opened_undamaged m law files.log opened number is damaged)
+      whole number damaged = absurd (gives.whole number damaged)
 
       valid : {A : Type 0} (name : List ℕ) → IsInvalid m files.log name → A
-      valid name invalid = absurd (opened_valid m law files.log name opened is invalid)
+      valid name invalid = absurd (gives.valid name invalid)
 
       hurt : {A : Type 0} → is_damaged status ≡ true → A
       hurt damaged = absurd (let e : true ≡ false = sym damaged ∙ turned.whole in cc)
 
       pub turned_runs : Runs m files input before start after out now status
       turned_runs = record {
-        front = λ o gives. subst (λ (x : Opened). WritesPrefix before out (all_told (ahead m files.log x) input)) (same o gives) turned.front;
+        front = λ o there. subst (λ (x : Opened). WritesPrefix before out (all_told (ahead m files.log x) input)) (same o there) turned.front;
         opened_first = λ wrote. (opened, is);
-        done = λ o gives done. subst (λ (x : Opened). out ≡ before ++ all_told (ahead m files.log x) input) (same o gives) (turned.done done);
-        before_too_long = λ o gives long. subst (λ (x : Opened). out ≡ before ++ told_within (2 ^ 30) (ahead m files.log x) input) (same o gives) (turned.too_long long);
-        log = λ o gives done. subst (λ (x : Opened). IsWholeLog 1 (texts_at files.log ++ texts_from (ahead m files.log x) input) after.log) (same o gives) (turned.log done);
-        reopens = λ o gives done. subst (λ (x : Opened). IsOpened m after.log (ended_with m files.log x input)) (same o gives) (reopened m law files.log after.log opened input is (turned.log done));
+        opened_alone = λ wrote. gives;
+        done = λ o there done. subst (λ (x : Opened). out ≡ before ++ all_told (ahead m files.log x) input) (same o there) (turned.done done);
+        before_too_long = λ o there long. subst (λ (x : Opened). out ≡ before ++ told_within (2 ^ 30) (ahead m files.log x) input) (same o there) (turned.too_long long);
+        log = λ o there done. subst (λ (x : Opened). IsWholeLog 1 (texts_at files.log ++ texts_from (ahead m files.log x) input) after.log) (same o there) (turned.log done);
+        reopens = λ o there done. subst (λ (x : Opened). IsOpened m after.log (ended_with m files.log x input)) (same o there) (reopened m law files.log after.log opened input is (turned.log done));
         others = only_on files between after LogFile only turned.others;
-        crash = λ quiet o gives. subst (λ (x : Opened). Since (IsKept m files x input before start.now) start now) (same o gives) (turned_crash quiet);
-        safe = λ quiet o gives has. subst (λ (x : Opened). IsSafe m files.log x input before now.now) (same o gives) turned_safe;
-        left = λ quiet o gives has. subst (λ (x : Opened). Survives m files.log x input before out after.log) (same o gives) turned_left;
+        crash = λ quiet o there. subst (λ (x : Opened). Since (IsKept m files x input before start.now) start now) (same o there) (turned_crash quiet);
+        safe = λ quiet o there has. subst (λ (x : Opened). IsSafe m files.log x input before now.now) (same o there) turned_safe;
+        left = λ quiet o there has. subst (λ (x : Opened). Survives m files.log x input before out after.log) (same o there) turned_left;
         begun = λ unborn. inr (subst (λ (x : Opened). Survives m files.log x input before out after.log) (same (nothing_logged m) (unborn_gives m law files.log unborn)) turned_left);
         alone = λ quiet. alone_on alone turned.alone;
         damaged = λ number damaged. hurt (ap is_damaged damaged);
-        damage = λ number gives. whole number gives;
-        damaged_silent = λ number gives. whole number gives;
-        damaged_kept = λ number gives. whole number gives;
+        damaged_alone = λ number damaged. hurt (ap is_damaged damaged);
+        damage = λ number there. whole number there;
+        damaged_silent = λ number there. whole number there;
+        damaged_kept = λ number there. whole number there;
         invalid = λ name invalid. hurt (ap is_damaged invalid);
-        violation = λ name gives. valid name gives;
-        invalid_silent = λ name gives. valid name gives;
-        invalid_kept = λ name gives. valid name gives;
+        invalid_alone = λ name invalid. hurt (ap is_damaged invalid);
+        violation = λ name there. valid name there;
+        invalid_silent = λ name there. valid name there;
+        invalid_kept = λ name there. valid name there;
         kept = λ damaged. hurt damaged;
       }
 

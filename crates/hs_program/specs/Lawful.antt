@@ -16,18 +16,18 @@ pub record IsSound (m : Meaning) (opened : Opened) : Type 0 where
 abbrev pub texts_over : Meaning → Opened → ℕ → List Item → List (List ℕ)
 texts_over m opened size items = made_by (pieces (m.future opened size) items)
 
--- A text makes one thing at most, and each is a commit. Before any commit no constraint is violated. Over what a run may begin with,
--- whatever size the log has, nothing is told of a commit that isn't made. Over items such as an input has, the texts that are
--- made make again what there is in the end, and what any first ones of them make violates no constraint.
+-- Each text is a commit. Before any commit no constraint is violated. Over what a run may begin with, whatever size the log has,
+-- nothing is told of a commit that isn't made. Over items such as an input has, the texts that are made make again what there is
+-- in the end, and this violates no constraint. Any first ones of them make something that violates none.
 pub record IsLawful (m : Meaning) : Type 0 where
-  pub one : (opened a b : Opened) (text : List ℕ) → m.Redone opened text a → m.Redone opened text b → a ≡ b
   pub counts : (opened next : Opened) (text : List ℕ) → m.Redone opened text next → next.commits ≡ opened.commits + 1
   pub starts : m.violated (nothing_logged m) ≡ None
   pub begins : (opened : Opened) (size : ℕ) → (m.future opened size).commits ≡ opened.commits
   pub is_true : (opened : Opened) (size : ℕ) → IsSound m opened → IsTrue (m.future opened size)
   pub remade : (opened : Opened) (size : ℕ) → IsSound m opened → (items : List Item) → AreTold items → AreRedone m opened (texts_over m opened size items) (m.ended opened size items)
-  pub valid : (opened : Opened) (size : ℕ) → IsSound m opened → (items : List Item) → AreTold items → (front rest : List (List ℕ)) (next : Opened)
-      → texts_over m opened size items ≡ front ++ rest → AreRedone m opened front next → m.violated next ≡ None
+  pub ends : (opened : Opened) (size : ℕ) → IsSound m opened → (items : List Item) → AreTold items → m.violated (m.ended opened size items) ≡ None
+  pub valid : (opened : Opened) (size : ℕ) → IsSound m opened → (items : List Item) → AreTold items → (front rest : List (List ℕ)) → texts_over m opened size items ≡ front ++ rest
+      → (next : Opened) × (AreRedone m opened front next × (m.violated next ≡ None))
 
 -- This stands for what some texts made.
 pub record IsStanding {E : Type 0} (m : Meaning) (stands_for : E → Opened → Type 0) (engine : E) : Type 0 where

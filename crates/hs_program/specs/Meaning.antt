@@ -1,6 +1,6 @@
 -- What a database is to a run.
 use Rattle.std.specs.Prelude.{ℕ, List, Option, None}
-use Rattle.hs_database.specs.Database.{Database}
+use Rattle.hs_turns.specs.Database.{Database}
 use Rattle.hs_entries.specs.declared.item.Item.{Item}
 use Rattle.hs_run.specs.Future.{Future}
 

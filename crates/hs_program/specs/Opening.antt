@@ -21,6 +21,16 @@ module _ (m : Meaning) where
   AreRedone opened [] last = last ≡ opened
   AreRedone opened (text ∷ texts) last = (next : Opened) × m.Redone opened text next × AreRedone next texts last
 
+  -- A text makes this of what those before it made, and nothing else.
+  pub record MakesOnly (opened : Opened) (text : List ℕ) (next : Opened) : Type 0 where
+    pub made : m.Redone opened text next
+    pub only : (other : Opened) → m.Redone opened text other → other ≡ next
+
+  -- Texts make this, one behind another, and nothing else.
+  abbrev pub AreMadeOnly : Opened → List (List ℕ) → Opened → Type 0
+  AreMadeOnly opened [] last = last ≡ opened
+  AreMadeOnly opened (text ∷ texts) last = (next : Opened) × MakesOnly opened text next × AreMadeOnly next texts last
+
   -- some texts made this
   abbrev pub IsReached : Opened → Type 0
   IsReached opened = (texts : List (List ℕ)) × AreRedone (nothing_logged m) texts opened

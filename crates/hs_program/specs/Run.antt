@@ -16,15 +16,15 @@ use Rattle.hs_program.specs.declared.status.Status.{Status}
 use Rattle.hs_program.specs.declared.status.Status.TheVariants.{Done, DiskFault, NoMemory, Damaged, InputTooLong}
 use Rattle.hs_program.specs.Ahead.{ahead, all_told, told_within, texts_from, ended_with}
 use Rattle.hs_program.specs.Crash.{IsQuiet, IsKept, IsSafe, Survives}
-use Rattle.hs_program.specs.Damaged.{IsDamagedAt}
+use Rattle.hs_program.specs.Damaged.{GivesOneAlone, IsDamagedAlone, IsDamagedAt, IsInvalidAlone}
 use Rattle.hs_program.specs.Lawful.{IsSound}
 use Rattle.hs_program.specs.Meaning.{Meaning, Opened, nothing_logged}
-use Rattle.hs_program.specs.Opening.{AreRedone, IsInvalid, IsOpened, texts_at}
+use Rattle.hs_program.specs.Opening.{AreMadeOnly, IsInvalid, IsOpened, texts_at}
 use Rattle.hs_program.specs.Stop.{TellsDamage, is_damaged}
 
--- The texts that were left of a log make this, and each was whole.
+-- The texts that were left of a log make this and nothing else, and each was whole.
 abbrev pub AllMade : Meaning → LogReader → List ℕ → Opened → Type 0
-AllMade m r log opened = AreRedone m (nothing_logged m) (left_in r log) opened × (is_broken log ≡ false)
+AllMade m r log opened = AreMadeOnly m (nothing_logged m) (left_in r log) opened × (is_broken log ≡ false)
 
 -- They make what violates this constraint, as the first.
 pub record MakeInvalid (m : Meaning) (r : LogReader) (log name : List ℕ) : Type 0 where
@@ -39,12 +39,14 @@ pub record Redoes {E H : Type 0} (m : Meaning) (stands_for : E → Opened → Ty
   pub sound : IsSound m opened
   pub is : Told s g old → AllMade m r (g.files old).log opened
 
--- A log was opened: an engine stands for what it gives, and the log, with the same commits, is kept as it is, also on the disk.
+-- A log was opened: an engine stands for what it gives, which is one alone, and the log, with the same commits, is kept as it is, also
+-- on the disk.
 pub record Opens {E H : Type 0} (m : Meaning) (stands_for : E → Opened → Type 0) (s : source.Ghosts H) (g : host.Ghosts H) (old new : H) (o : Opening E) : Type 0 where
   pub opened : Opened
   pub stands : stands_for o.engine opened
   pub sound : IsSound m opened
   pub is : Told s g old → IsOpened m (g.files old).log opened
+  pub alone : Told s g old → GivesOneAlone m (g.files old).log
   pub host : IsOpen (g.standing new)
   pub epoch : epoch_in o.log ≡ 1
   pub log : Told s g new → IsLog (g.history new) (g.files new) o.log
@@ -59,6 +61,7 @@ HasLog log status = (is_born log ≡ true) ⊎ ((status ≡ DiskFault → ⊥) �
 pub record Runs (m : Meaning) (files : Five (List ℕ)) (input before : List ℕ) (start : History) (after : Five (List ℕ)) (out : List ℕ) (now : History) (status : Status) : Type 0 where
   pub front : (opened : Opened) → IsOpened m files.log opened → WritesPrefix before out (all_told (ahead m files.log opened) input)
   pub opened_first : (¬ (out ≡ before)) ⊎ ((status ≡ Done) ⊎ (status ≡ InputTooLong)) → (opened : Opened) × IsOpened m files.log opened
+  pub opened_alone : (¬ (out ≡ before)) ⊎ ((status ≡ Done) ⊎ (status ≡ InputTooLong)) → GivesOneAlone m files.log
   pub done : (opened : Opened) → IsOpened m files.log opened → status ≡ Done → out ≡ before ++ all_told (ahead m files.log opened) input
   pub before_too_long : (opened : Opened) → IsOpened m files.log opened → status ≡ InputTooLong → out ≡ before ++ told_within (2 ^ 30) (ahead m files.log opened) input
   pub log : (opened : Opened) → IsOpened m files.log opened → status ≡ Done → IsWholeLog 1 (texts_at files.log ++ texts_from (ahead m files.log opened) input) after.log
@@ -70,10 +73,12 @@ pub record Runs (m : Meaning) (files : Five (List ℕ)) (input before : List ℕ
   pub begun : is_born files.log ≡ false → (is_born after.log ≡ false) ⊎ Survives m files.log (nothing_logged m) input before out after.log
   pub alone : IsQuiet files start.now → Since (IsLater start.now) start now
   pub damaged : (number : ℕ) → status ≡ Damaged (Log number) → IsDamagedAt m files.log number
+  pub damaged_alone : (number : ℕ) → status ≡ Damaged (Log number) → IsDamagedAlone m files.log number
   pub damage : (number : ℕ) → IsDamagedAt m files.log number → TellsDamage (Log number) status
   pub damaged_silent : (number : ℕ) → IsDamagedAt m files.log number → out ≡ before
   pub damaged_kept : (number : ℕ) → IsDamagedAt m files.log number → after ≡ files
   pub invalid : (name : List ℕ) → status ≡ Damaged (Invalid name) → IsInvalid m files.log name
+  pub invalid_alone : (name : List ℕ) → status ≡ Damaged (Invalid name) → IsInvalidAlone m files.log name
   pub violation : (name : List ℕ) → IsInvalid m files.log name → TellsDamage (Invalid name) status
   pub invalid_silent : (name : List ℕ) → IsInvalid m files.log name → out ≡ before
   pub invalid_kept : (name : List ℕ) → IsInvalid m files.log name → after ≡ files

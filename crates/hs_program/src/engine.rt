@@ -1,7 +1,8 @@
 // What makes commits again and takes turns.
 ghost use Rattle.std.specs.Prelude.{◌≡◌, ◌<◌, ◌^◌, true, false, IfOk};
-ghost use Rattle.hs_program.specs.Lawful.{IsLawful, IsReady, IsStanding};
+ghost use Rattle.hs_program.specs.Lawful.{IsLawful, IsReady, IsSound, IsStanding};
 ghost use Rattle.hs_program.specs.Meaning.{Meaning, Opened, nothing_logged};
+ghost use Rattle.hs_program.specs.Opening.{MakesOnly};
 
 use hs_run::Turns;
 use hs_values::Name;
@@ -26,11 +27,11 @@ pub trait Engine {
     fn last(&self) -> Option<u32>
         ensures { (opened : Opened) → stands_for self.now opened → result ≡ opened.last };
 
-    /// Makes a commit again from its text, and answers whether that could be done. Where it couldn't, and after an `Err`, which is
-    /// want of memory, nothing is known of this.
+    /// Makes a commit again from its text, and answers whether that could be done. Where it could, the text makes this and nothing else.
+    /// Where it couldn't, the text makes nothing. Then, and after an `Err`, which is want of memory, nothing is known of this.
     fn redo(&mut self, text: &[u8]) -> Result<bool, AllocError>
         requires stands { (standing : IsStanding meaning stands_for self.old) × (standing.opened.commits < 2 ^ 63) }
-        ensures made { IfOk result (λ made. made ≡ true → (opened : Opened) → stands_for self.old opened → (next : Opened) × (meaning.Redone opened text.now next × stands_for self.new next)) }
+        ensures made { IfOk result (λ made. made ≡ true → (opened : Opened) → stands_for self.old opened → (next : Opened) × (MakesOnly meaning opened text.now next × stands_for self.new next)) }
         ensures none { IfOk result (λ made. made ≡ false → (opened : Opened) → stands_for self.old opened → (next : Opened) → ¬ (meaning.Redone opened text.now next)) };
 
     /// The name of the first constraint that it violates, and none where it violates none. An `Err` is want of memory.
@@ -41,8 +42,9 @@ pub trait Engine {
     /// What takes turns over it, where no constraint is violated and the log has so many bytes before the one that ends it. Takes no memory.
     fn turns(self, size: u64) -> Self::Work
         requires ready { IsReady meaning stands_for self }
-        ensures ahead { (opened : Opened) → stands_for self opened → Self.Work.has_ahead result (meaning.future opened size) };
+        ensures ahead { (opened : Opened) → stands_for self opened → IsSound meaning opened → Self.Work.has_ahead result (meaning.future opened size) };
 
-    /// What is told of commits is true, and what is made can be made again and violates no constraint.
+    /// What is told of commits is true, and what is made can be made again and violates no constraint. That each text makes one
+    /// thing at most isn't asked: it is told of a text when it is read.
     ghost lawful: { IsLawful meaning };
 }

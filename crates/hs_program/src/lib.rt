@@ -13,9 +13,6 @@ mod status;
 
 pub use damage::Damage;
 pub use engine::Engine;
-pub use laws::{
-    a_damaged_or_invalid_log_gives_nothing, damage_is_that_of_the_first_group,
-    what_a_log_gives_is_one_alone,
-};
+pub use laws::damage_is_that_of_the_first_group;
 pub use program::run_over;
 pub use status::Status;

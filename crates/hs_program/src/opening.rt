@@ -8,7 +8,7 @@ ghost use Rattle.hs_log.specs.LogReading.{IsReading, TakesText, count_in, left_i
 ghost use Rattle.hs_run.specs.Crash.{IsLater};
 ghost use Rattle.hs_run.specs.Stop.{NoFaults};
 ghost use Rattle.hs_program.specs.Crash.{IsFound, IsQuiet};
-ghost use Rattle.hs_program.specs.Damaged.{IsDamagedAt, IsFirstDamage};
+ghost use Rattle.hs_program.specs.Damaged.{IsDamagedAlone, IsDamagedAt, IsInvalidAlone, IsOnlyDamage};
 ghost use Rattle.hs_program.specs.Opening.{IsInvalid};
 ghost use Rattle.hs_program.specs.Run.{MakeInvalid, Opens, Redoes};
 ghost use Rattle.hs_program.specs.Stop.{OpenStops};
@@ -33,8 +33,8 @@ pub fn open_log<H: Host, E: Engine + Drop>(
 ) -> Result<Opening<E>, OpenFault>
     requires { IsOpen (H.standing host.old) }
     ensures opens { IfOk result (Opens E.meaning E.stands_for H.Source H.Host.own host.old host.new) }
-    ensures damaged { Told H.Source H.Host.own host.old → (number : ℕ) → IsErrOf result (OpenFault.Damaged number) → IsDamagedAt E.meaning (H.files host.old).log number × (H.files host.new ≡ H.files host.old) }
-    ensures invalid { Told H.Source H.Host.own host.old → (name : List ℕ) → IsErrOf result (OpenFault.Invalid name) → IsInvalid E.meaning (H.files host.old).log name × (H.files host.new ≡ H.files host.old) }
+    ensures damaged { Told H.Source H.Host.own host.old → (number : ℕ) → IsErrOf result (OpenFault.Damaged number) → IsDamagedAt E.meaning (H.files host.old).log number × IsDamagedAlone E.meaning (H.files host.old).log number × (H.files host.new ≡ H.files host.old) }
+    ensures invalid { Told H.Source H.Host.own host.old → (name : List ℕ) → IsErrOf result (OpenFault.Invalid name) → IsInvalid E.meaning (H.files host.old).log name × IsInvalidAlone E.meaning (H.files host.old).log name × (H.files host.new ≡ H.files host.old) }
     ensures kept { Told H.Source H.Host.own host.old → ((number : ℕ) → IsDamagedAt E.meaning (H.files host.old).log number → H.files host.new ≡ H.files host.old) × ((name : List ℕ) → IsInvalid E.meaning (H.files host.old).log name → H.files host.new ≡ H.files host.old) }
     ensures moments { Told H.Source H.Host.own host.old → IsQuiet (H.files host.old) (H.history host.old).now → Since (IsFound E.meaning (H.files host.old) (H.history host.old).now) (H.history host.old) (H.history host.new) }
     ensures moves { Moves H.Source H.Host.own FileKind.Log (IsLater (H.history host.old).now) host.old host.new }
@@ -60,8 +60,8 @@ fn read_log<H: Host, E: Engine + Drop>(
     requires none { count_in reader ≡ 0 }
     requires begun { Told H.Source H.Host.own host.old → (has_header 1 (H.files host.old).log ≡ true) × (left_in reader (H.files host.old).log ≡ texts_of (H.files host.old).log) }
     ensures opens { IfOk result (Opens E.meaning E.stands_for H.Source H.Host.own host.old host.new) }
-    ensures damaged { Told H.Source H.Host.own host.old → (number : ℕ) → IsErrOf result (OpenFault.Damaged number) → IsDamagedAt E.meaning (H.files host.old).log number × (H.files host.new ≡ H.files host.old) }
-    ensures invalid { Told H.Source H.Host.own host.old → (name : List ℕ) → IsErrOf result (OpenFault.Invalid name) → IsInvalid E.meaning (H.files host.old).log name × (H.files host.new ≡ H.files host.old) }
+    ensures damaged { Told H.Source H.Host.own host.old → (number : ℕ) → IsErrOf result (OpenFault.Damaged number) → IsDamagedAt E.meaning (H.files host.old).log number × IsDamagedAlone E.meaning (H.files host.old).log number × (H.files host.new ≡ H.files host.old) }
+    ensures invalid { Told H.Source H.Host.own host.old → (name : List ℕ) → IsErrOf result (OpenFault.Invalid name) → IsInvalid E.meaning (H.files host.old).log name × IsInvalidAlone E.meaning (H.files host.old).log name × (H.files host.new ≡ H.files host.old) }
     ensures kept { Told H.Source H.Host.own host.old → ((number : ℕ) → IsDamagedAt E.meaning (H.files host.old).log number → H.files host.new ≡ H.files host.old) × ((name : List ℕ) → IsInvalid E.meaning (H.files host.old).log name → H.files host.new ≡ H.files host.old) }
     ensures moments { Told H.Source H.Host.own host.old → IsQuiet (H.files host.old) (H.history host.old).now → Since (IsFound E.meaning (H.files host.old) (H.history host.old).now) (H.history host.old) (H.history host.new) }
     ensures moves { Moves H.Source H.Host.own FileKind.Log (IsLater (H.history host.old).now) host.old host.new }
@@ -86,7 +86,7 @@ fn redo_all<H: Host, E: Engine + Drop>(
     requires reading { IsReading H.Source H.Host.own reader.old host.old }
     requires none { count_in reader.old ≡ 0 }
     ensures redoes { IfOk result (Redoes E.meaning E.stands_for H.Source H.Host.own reader.old host.old) }
-    ensures damaged { Told H.Source H.Host.own host.old → (number : ℕ) → IsErrOf result (OpenFault.Damaged number) → IsFirstDamage E.meaning (left_in reader.old (H.files host.old).log) (is_broken (H.files host.old).log) number }
+    ensures damaged { Told H.Source H.Host.own host.old → (number : ℕ) → IsErrOf result (OpenFault.Damaged number) → IsOnlyDamage E.meaning (left_in reader.old (H.files host.old).log) (is_broken (H.files host.old).log) number }
     ensures invalid { Told H.Source H.Host.own host.old → (name : List ℕ) → IsErrOf result (OpenFault.Invalid name) → MakeInvalid E.meaning reader.old (H.files host.old).log name }
     ensures whole { Told H.Source H.Host.own host.old → OnOk result (TakesText (H.files host.new).log reader.new false reader.new) }
     ensures reading { OnOk result (IsReading H.Source H.Host.own reader.new host.new) }

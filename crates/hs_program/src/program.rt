@@ -11,7 +11,7 @@ ghost use Rattle.hs_run.specs.Stop.{NoFaults};
 ghost use Rattle.hs_program.specs.Ahead.{ahead, all_told, told_within, texts_from, ended_with};
 ghost use Rattle.hs_program.specs.Command.{database_of};
 ghost use Rattle.hs_program.specs.Crash.{IsQuiet, IsSafe, IsKept, Survives};
-ghost use Rattle.hs_program.specs.Damaged.{IsDamagedAt};
+ghost use Rattle.hs_program.specs.Damaged.{GivesOneAlone, IsDamagedAlone, IsDamagedAt, IsInvalidAlone};
 ghost use Rattle.hs_program.specs.Meaning.{Opened, nothing_logged};
 ghost use Rattle.hs_program.specs.Mounting.{Mounts};
 ghost use Rattle.hs_program.specs.Opening.{IsInvalid, IsOpened, texts_at};
@@ -38,6 +38,10 @@ use std::alloc::Global;
 /// this one ended. Over a damaged log, and over one whose commits make what violates a constraint, nothing is written and no file is
 /// changed, whatever the status is.
 ///
+/// Where anything was written, and at `Done` and `InputTooLong`, the commits of the log make one database alone, and the log is neither
+/// damaged nor invalid. Where the status names a damage or a violated constraint, the log gives no database and has no
+/// other damage and no other first violated constraint. It is the run that knows so, of the texts that it read: it is no law of all logs.
+///
 /// Where the log was all on the disk at the call, a crash at any moment of the run leaves a log that has the commits
 /// that were found and the first so many of those that this run makes, and the next run begins with what these made. It has
 /// all commits that were acknowledged by then, and none of the run's own until the first line is written. Only while a log
@@ -55,6 +59,7 @@ pub fn run_over<H: Host, E: Engine + Drop>(alloc: Global, words: &Words, host: &
     // What is written.
     ensures front { H.tells → IsHonest (H.standing host.old) → (opened : Opened) → IsOpened E.meaning (H.files host.old).log opened → WritesPrefix (H.written host.old) (H.written host.new) (all_told (ahead E.meaning (H.files host.old).log opened) (H.unread host.old)) }
     ensures opened_first { H.tells → IsHonest (H.standing host.old) → (¬ (H.written host.new ≡ H.written host.old)) ⊎ ((result ≡ Status.Done) ⊎ (result ≡ Status.InputTooLong)) → (opened : Opened) × IsOpened E.meaning (H.files host.old).log opened }
+    ensures opened_alone { H.tells → IsHonest (H.standing host.old) → (¬ (H.written host.new ≡ H.written host.old)) ⊎ ((result ≡ Status.Done) ⊎ (result ≡ Status.InputTooLong)) → GivesOneAlone E.meaning (H.files host.old).log }
     ensures done { H.tells → IsHonest (H.standing host.old) → (opened : Opened) → IsOpened E.meaning (H.files host.old).log opened → result ≡ Status.Done → H.written host.new ≡ H.written host.old ++ all_told (ahead E.meaning (H.files host.old).log opened) (H.unread host.old) }
     ensures read { H.tells → result ≡ Status.Done → H.unread host.new ≡ [] }
     ensures done_within { H.tells → result ≡ Status.Done → length (H.unread host.old) ≤ 2 ^ 30 }
@@ -84,12 +89,14 @@ pub fn run_over<H: Host, E: Engine + Drop>(alloc: Global, words: &Words, host: &
     ensures own { H.tells → IsForeign (H.standing host.old) → (result ≡ Status.Usage) ⊎ ((result ≡ Status.Damaged Damage.Foreign) ⊎ ((result ≡ Status.DiskFault) ⊎ (result ≡ Status.NoMemory))) }
     ensures foreign_kept { H.tells → result ≡ Status.Damaged Damage.Foreign → H.files host.new ≡ H.files host.old }
     ensures damaged { H.tells → IsHonest (H.standing host.old) → (number : ℕ) → result ≡ Status.Damaged (Damage.Log number) → IsDamagedAt E.meaning (H.files host.old).log number }
+    ensures damaged_alone { H.tells → IsHonest (H.standing host.old) → (number : ℕ) → result ≡ Status.Damaged (Damage.Log number) → IsDamagedAlone E.meaning (H.files host.old).log number }
     ensures damage { H.tells → IsHonest (H.standing host.old) → (number : ℕ) → IsDamagedAt E.meaning (H.files host.old).log number → (result ≡ Status.Usage) ⊎ ((result ≡ Status.Damaged Damage.Foreign) ⊎ ((result ≡ Status.Damaged (Damage.Log number)) ⊎ ((result ≡ Status.DiskFault) ⊎ (result ≡ Status.NoMemory)))) }
     ensures silent { is_damaged result ≡ true → (H.written host.new ≡ H.written host.old) × (H.unread host.new ≡ H.unread host.old) }
     ensures kept { H.tells → IsHonest (H.standing host.old) → is_damaged result ≡ true → H.files host.new ≡ H.files host.old }
     ensures damaged_kept { H.tells → IsHonest (H.standing host.old) → (number : ℕ) → IsDamagedAt E.meaning (H.files host.old).log number → H.files host.new ≡ H.files host.old }
     ensures damaged_silent { H.tells → IsHonest (H.standing host.old) → (number : ℕ) → IsDamagedAt E.meaning (H.files host.old).log number → H.written host.new ≡ H.written host.old }
     ensures invalid { H.tells → IsHonest (H.standing host.old) → (name : List ℕ) → result ≡ Status.Damaged (Damage.Invalid name) → IsInvalid E.meaning (H.files host.old).log name }
+    ensures invalid_alone { H.tells → IsHonest (H.standing host.old) → (name : List ℕ) → result ≡ Status.Damaged (Damage.Invalid name) → IsInvalidAlone E.meaning (H.files host.old).log name }
     ensures violation { H.tells → IsHonest (H.standing host.old) → (name : List ℕ) → IsInvalid E.meaning (H.files host.old).log name → (result ≡ Status.Usage) ⊎ ((result ≡ Status.Damaged Damage.Foreign) ⊎ ((result ≡ Status.Damaged (Damage.Invalid name)) ⊎ ((result ≡ Status.DiskFault) ⊎ (result ≡ Status.NoMemory)))) }
     ensures invalid_kept { H.tells → IsHonest (H.standing host.old) → (name : List ℕ) → IsInvalid E.meaning (H.files host.old).log name → H.files host.new ≡ H.files host.old }
     ensures invalid_silent { H.tells → IsHonest (H.standing host.old) → (name : List ℕ) → IsInvalid E.meaning (H.files host.old).log name → H.written host.new ≡ H.written host.old }

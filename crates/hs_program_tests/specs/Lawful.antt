@@ -13,7 +13,7 @@ use Rattle.hs_run_tests.proofs.Truth.{silent_true}
 use Rattle.hs_program.specs.Lawful.{IsLawful}
 use Rattle.hs_program.specs.Meaning.{Opened}
 use Rattle.hs_program.specs.Opening.{AreRedone}
-use Rattle.hs_program_tests.specs.Tally.{counted, is_short, short_violated, tallied, with_commits, with_count}
+use Rattle.hs_program_tests.specs.Tally.{counted, is_short, tallied, with_commits, with_count}
 
 abbrev AreShort : List (List ℕ) → Type 0
 AreShort texts = list_all is_short texts ≡ true
@@ -58,12 +58,6 @@ one_more opened text texts short =
 no_more : (opened : Opened) → opened ≡ with_commits 0 opened
 no_more opened = let same : opened.commits ≡ opened.commits + 0 = omega arith in ap (with opened) same
 
-all_counted : (texts : List (List ℕ)) (opened last : Opened) → AreShort texts → AreRedone tallied opened texts last → last ≡ with_commits (length texts) opened
-all_counted [] opened last short made = made ∙ no_more opened
-all_counted (text ∷ texts) opened last short made =
-    let parts = both (is_short text) (list_all is_short texts) short in
-    all_counted texts made.0 last parts.1 made.2 ∙ ap (with_commits (length texts)) made.1 ∙ one_more opened text texts parts.0
-
 all_made : (texts : List (List ℕ)) (opened : Opened) → AreShort texts → AreRedone tallied opened texts (with_commits (length texts) opened)
 all_made [] opened short = sym (no_more opened)
 all_made (text ∷ texts) opened short =
@@ -72,13 +66,13 @@ all_made (text ∷ texts) opened short =
 
 pub is_lawful : IsLawful tallied
 is_lawful = record {
-  one = λ opened a b text first second. first ∙ sym second;
   counts = λ opened next text is. ap (λ (o : Opened). o.commits) is;
   starts = refl;
   begins = λ opened size. refl;
   is_true = λ opened size sound items told. silent_true opened.commits items;
   remade = λ opened size sound items told. all_made (made_by (pieces (silent_future opened.commits) items)) opened (all_short items told);
-  valid = λ opened size sound items told front rest next all made.
+  ends = λ opened size sound items told. sound.valid;
+  valid = λ opened size sound items told front rest all.
       let short = first_short front rest (subst AreShort all (all_short items told)) in
-      ap (λ (o : Opened). short_violated o) (all_counted front opened next short made) ∙ sound.valid;
+      (with_commits (length front) opened, (all_made front opened short, sound.valid));
 }

@@ -3,7 +3,7 @@ use Rattle.std.specs.Prelude.{◌≡◌, ℕ, ◌+◌, ◌==◌, nat_le, Bool, L
 use Rattle.std.specs.FinMap.{empty}
 use Rattle.hs_ast.specs.declared.session.Isolation.TheVariants.{ReadCommitted}
 use Rattle.hs_claims.specs.declared.model.ControlKind.TheVariants.{Locks}
-use Rattle.hs_database.specs.Database.{Database}
+use Rattle.hs_turns.specs.Database.{Database}
 use Rattle.hs_run.specs.Pieces.{made_by}
 use Rattle.hs_run.specs.Running.{pieces}
 use Rattle.hs_run_tests.specs.Silent.{silent_future}

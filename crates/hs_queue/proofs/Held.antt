@@ -4,7 +4,7 @@ use Rattle.std.specs.Prelude.{Option, None, Some, IfSome, IfNone, IsSome, slice_
 use Rattle.std.proofs.lemmas.List.{get_or-map, length-map, map-set}
 use Rattle.std.proofs.Math.ListN.{length-set}
 use Rattle.std.proofs.Math.Seq.{map-set_same}
-use Rattle.hs_histories.specs.Each.{Each}
+use Rattle.hs_turns.specs.Each.{Each}
 use Rattle.hs_queue.specs.Entries.{queued_of}
 use Rattle.hs_queue.specs.Lanes.{Queued, backlog}
 use Rattle.hs_queue.specs.declared.lanes.Ticketed.{Ticketed}

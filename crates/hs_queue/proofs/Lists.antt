@@ -3,7 +3,7 @@ use Rattle.std.proofs.Common.{◌≡◌, ℕ, zero, suc, ◌+◌, ◌<◌, ◌�
 use Rattle.std.specs.Prelude.{None, Some, filter, if◌then◌else◌, slice_set}
 use Rattle.std.proofs.lemmas.Bool.{cases_lt}
 use Rattle.std.proofs.lemmas.List.Elements.{filter-append}
-use Rattle.hs_histories.specs.Each.{Each}
+use Rattle.hs_turns.specs.Each.{Each}
 use Rattle.hs_turns.specs.Turns.{ready_among}
 use Rattle.hs_turns.specs.Waiting.{Entry, is_waiting}
 use Rattle.hs_queue.specs.Lanes.{AreLanes, Ascends, Grows, IsPushed, Queued, backlog, count_in, entry_in, is_of, ticket_of}

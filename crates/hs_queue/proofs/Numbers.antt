@@ -1,6 +1,6 @@
 -- Numbers that ascend.
 use Rattle.std.proofs.Common.{ℕ, ◌+◌, ◌<◌, arith, List, [], ◌∷◌, ◌++◌}
-use Rattle.hs_histories.specs.Each.{Each}
+use Rattle.hs_turns.specs.Each.{Each}
 use Rattle.hs_queue.specs.Lanes.{Ascends}
 
 abbrev Above : ℕ → List ℕ → Type 0

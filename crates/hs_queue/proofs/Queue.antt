@@ -1,7 +1,7 @@
 -- The first entry of a queue that is ready, by the entries of each session.
 use Rattle.std.proofs.Common.{◌≡◌, ℕ, ◌+◌, ◌<◌, ◌≤◌, ◌==◌, Bool, true, false, cond, List, [], ◌∷◌, ◌++◌, length, map, refl, sym, ap, ◌∙◌, subst, arith}
 use Rattle.std.specs.Prelude.{Option, None, Some, filter}
-use Rattle.hs_histories.specs.Each.{Each}
+use Rattle.hs_turns.specs.Each.{Each}
 use Rattle.hs_turns.specs.Turns.{ready_among}
 use Rattle.hs_turns.specs.Waiting.{Entry, is_waiting}
 use Rattle.hs_queue.specs.Lanes.{Ascends, Queued, entry_in, is_of, ticket_of}

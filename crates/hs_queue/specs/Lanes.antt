@@ -1,6 +1,6 @@
 -- The entries of a queue, by their sessions. Each has a ticket; one that was queued later has a greater one.
 use Rattle.std.specs.Prelude.{◌≡◌, ◌≤◌, ◌<◌, ◌+◌, ◌==◌, ℕ, Bool, List, [], ◌∷◌, ◌++◌, length, filter, if◌then◌else◌, slice_index_or, slice_set}
-use Rattle.hs_histories.specs.Each.{Each}
+use Rattle.hs_turns.specs.Each.{Each}
 use Rattle.hs_turns.specs.Waiting.{Entry}
 
 -- an entry with its ticket

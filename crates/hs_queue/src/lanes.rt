@@ -27,7 +27,7 @@ pub struct Lanes {
 
 impl Model for Lanes {
     ghost use Rattle.std.specs.Prelude.{◌≡◌, ◌+◌, ◌≤◌, List, ℕ, map, length};
-    ghost use Rattle.hs_histories.specs.Each.{Each};
+    ghost use Rattle.hs_turns.specs.Each.{Each};
     ghost use Rattle.hs_queue.specs.Lanes.{Queued, backlog};
     ghost use Rattle.hs_queue.specs.Entries.{queued_of};
 

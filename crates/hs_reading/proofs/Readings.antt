@@ -1,10 +1,10 @@
 -- SQL's reading is one, and each is bound.
 use Rattle.std.proofs.Common.{◌≡◌, ℕ, Bool, List, Result, Ok, Err, sym, ◌∙◌, subst}
 use Rattle.hs_ast.specs.declared.statement.Stmt.{Stmt}
-use Rattle.hs_bound.specs.Bound.{bound}
-use Rattle.hs_bound.proofs.Answered.{statement_answer}
+use Rattle.hs_statements.specs.Bound.{bound}
+use Rattle.hs_statements.proofs.Answered.{statement_answer}
 use Rattle.hs_entries.specs.Entry.{place_of, statement_of}
-use Rattle.hs_histories.specs.Histories.{Commit}
+use Rattle.hs_turns.specs.Histories.{Commit}
 use Rattle.hs_language.specs.Reading.{Reading}
 use Rattle.hs_plan.specs.declared.definition.Definition.{Definition}
 use Rattle.hs_plan.specs.declared.plan.Plan.TheVariants as plan
@@ -16,7 +16,7 @@ use Rattle.hs_requests.specs.Plans.{in_words}
 use Rattle.hs_requests.specs.Words.{bind_words, refusal_words}
 use Rattle.hs_requests.proofs.Told.{answered, requested, unread}
 use Rattle.hs_schema.specs.Catalogue.{Text, Things}
-use Rattle.hs_sql.specs.Binding.{IsBound}
+use Rattle.hs_reading.specs.BoundReading.{IsBound}
 use Rattle.hs_statements.specs.Statements.{Answer, AnswersStatement}
 
 pub is_reading : (room : List Commit → Commit → Bool) → IsReading (reading_of room)

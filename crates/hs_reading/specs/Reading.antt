@@ -2,7 +2,7 @@
 use Rattle.std.specs.Prelude.{◌≡◌, Bool, List, Result, Ok, Err}
 use Rattle.hs_ast.specs.declared.statement.Stmt.{Stmt}
 use Rattle.hs_entries.specs.Entry.{place_of, statement_of}
-use Rattle.hs_histories.specs.Histories.{Commit}
+use Rattle.hs_turns.specs.Histories.{Commit}
 use Rattle.hs_language.specs.Reading.{Reading, TellsTables}
 use Rattle.hs_reached.specs.Reached.{tables_read, tables_written}
 use Rattle.hs_read.specs.Read.{IsReadAs, Refusal}

@@ -2,14 +2,14 @@
 ghost use Rattle.std.specs.Prelude.{◌≡◌, Bool, List, Ok};
 ghost use Rattle.hs_ast.specs.declared.statement.Stmt.{Stmt};
 ghost use Rattle.hs_entries.specs.Entry.{statement_of};
-ghost use Rattle.hs_histories.specs.Histories.{Commit};
-ghost use Rattle.hs_histories.specs.Language.{Laws};
+ghost use Rattle.hs_turns.specs.Histories.{Commit};
+ghost use Rattle.hs_turns.specs.Language.{Laws};
 ghost use Rattle.hs_language.specs.Reading.{Reading};
 ghost use Rattle.hs_language.specs.Sql.{sql};
 ghost use Rattle.hs_read.specs.Read.{IsReadAs};
 ghost use Rattle.hs_reading.specs.Reading.{IsReading, reading_of};
 ghost use Rattle.hs_schema.specs.Catalogue.{Text, Things};
-ghost use Rattle.hs_sql.specs.Binding.{IsBound};
+ghost use Rattle.hs_reading.specs.BoundReading.{IsBound};
 ghost use Rattle.hs_turns.specs.Dialect.{language_of};
 
 /// There is a reading of SQL, whatever room the log has: entries ask for what their statements are, by the literal

@@ -10,7 +10,7 @@ use Rattle.std.proofs.lemmas.Bool.Decides.{eqb_tells, nat_tests}
 use Rattle.std.proofs.lemmas.List.{append-nil, take_all}
 use Rattle.hs_base.specs.declared.numbers.TableNo.{TableNo}
 use Rattle.hs_changes.specs.Settings.{Maps}
-use Rattle.hs_database.specs.Definitions.{lengthened, with_rows}
+use Rattle.hs_turns.specs.Definitions.{lengthened, with_rows}
 use Rattle.hs_index.specs.Table.{Rows}
 use Rattle.hs_schema.specs.Catalogue.{Things}
 use Rattle.hs_schema.specs.declared.thing.Thing.{Thing}

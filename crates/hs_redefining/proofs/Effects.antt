@@ -7,8 +7,8 @@ use Rattle.std.specs.Option.{option_map_or}
 use Rattle.hs_ast.specs.declared.definition.Storage.{Storage}
 use Rattle.hs_base.specs.declared.numbers.TableNo.{TableNo}
 use Rattle.hs_changes.specs.Settings.{Maps}
-use Rattle.hs_database.specs.Database.{defined}
-use Rattle.hs_database.specs.Definitions.{default_value, lengthened, rows_after, with_rows}
+use Rattle.hs_turns.specs.Database.{defined}
+use Rattle.hs_turns.specs.Definitions.{default_value, lengthened, rows_after, with_rows}
 use Rattle.hs_index.specs.Table.{Rows}
 use Rattle.hs_language.specs.Definitions.{has_long}
 use Rattle.hs_language.specs.Validity.{is_long, types_in}

@@ -3,8 +3,8 @@ use Rattle.std.proofs.Common.{◌≡◌, ℕ, ◌+◌, Bool, true, false, [], Op
 use Rattle.std.specs.List.{IsDistinct}
 use Rattle.std.specs.Prelude.{Result, Err}
 use Rattle.std.specs.Str.{bytes_eq}
-use Rattle.hs_database.specs.Database.{Database, defined}
-use Rattle.hs_database.specs.Definitions.{rows_after}
+use Rattle.hs_turns.specs.Database.{Database, defined}
+use Rattle.hs_turns.specs.Definitions.{rows_after}
 use Rattle.hs_language.specs.Definitions.{judged, makes_long, put_by, still_referenced, unless_referenced, unless_violated, violated_by}
 use Rattle.hs_language.specs.Validity.{lets_pass}
 use Rattle.hs_language.specs.Words.{violation_words}

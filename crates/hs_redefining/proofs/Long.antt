@@ -5,8 +5,8 @@ use Rattle.std.specs.List.{list_any}
 use Rattle.std.specs.Option.{option_map_or}
 use Rattle.hs_base.specs.declared.numbers.RowNo.{RowNo}
 use Rattle.hs_base.specs.declared.numbers.TableNo.{TableNo}
-use Rattle.hs_database.specs.Definitions.{lengthened}
-use Rattle.hs_database.proofs.Lengthened.{get-lengthened}
+use Rattle.hs_turns.specs.Definitions.{lengthened}
+use Rattle.hs_turns.proofs.Lengthened.{get-lengthened}
 use Rattle.hs_index.specs.Table.{Rows}
 use Rattle.hs_language.specs.Validity.{is_long, types_in}
 use Rattle.hs_rowlimit.specs.Long as limit

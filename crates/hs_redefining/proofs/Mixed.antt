@@ -10,8 +10,8 @@ use Rattle.hs_values.specs.declared.value.Value.{Value}
 use Rattle.hs_index.specs.Table.{Rows}
 use Rattle.hs_changes.specs.Settings.{Maps, set_row, with_values}
 use Rattle.hs_changes.proofs.Set.{get-with_values}
-use Rattle.hs_database.specs.Definitions.{lengthened, with_rows}
-use Rattle.hs_database.proofs.Lengthened.{get-lengthened}
+use Rattle.hs_turns.specs.Definitions.{lengthened, with_rows}
+use Rattle.hs_turns.proofs.Lengthened.{get-lengthened}
 use Rattle.hs_rows.specs.Numbers.{first_number, from_number, next_in, start}
 use Rattle.hs_redefining.specs.Longer.{AreLonger, AreWithin, longer}
 

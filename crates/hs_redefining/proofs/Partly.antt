@@ -3,7 +3,7 @@ use Rattle.std.proofs.Common.{◌≡◌, ℕ, suc, [], ◌∷◌, Option, Some, 
 use Rattle.std.specs.FinMap.{empty, get}
 use Rattle.hs_base.specs.declared.numbers.RowNo.{RowNo}
 use Rattle.hs_changes.specs.Settings.{Maps, set_row, with_values}
-use Rattle.hs_database.specs.Definitions.{lengthened, with_rows}
+use Rattle.hs_turns.specs.Definitions.{lengthened, with_rows}
 use Rattle.hs_index.specs.Table.{Rows}
 use Rattle.hs_plainrows.specs.Ready.{tables_of}
 use Rattle.hs_rows.specs.Numbers.{next_in, start}

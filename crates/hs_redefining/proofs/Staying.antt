@@ -8,7 +8,7 @@ use Rattle.std.proofs.lemmas.Bool.{or_parts}
 use Rattle.std.proofs.lemmas.Bool.Decides.{eqb_tells}
 use Rattle.std.proofs.lemmas.List.Elements.{All-cons, All-nil}
 use Rattle.hs_changes.specs.Settings.{Maps}
-use Rattle.hs_database.specs.Definitions.{with_rows}
+use Rattle.hs_turns.specs.Definitions.{with_rows}
 use Rattle.hs_index.specs.Table.{Rows}
 use Rattle.hs_rows.specs.Numbers.{next_in}
 use Rattle.hs_schema.specs.Catalogue.{Things}

@@ -10,8 +10,8 @@ use Rattle.std.specs.Ordering.{eq_by_cmp, nat_cmp}
 use Rattle.std.specs.Str.{bytes_eq}
 use Rattle.hs_changes.specs.Settings.{Maps}
 use Rattle.hs_changes.proofs.Set.{ties_are_equal}
-use Rattle.hs_database.specs.Definitions.{lengthened}
-use Rattle.hs_database.proofs.Lengthened.{get-lengthened}
+use Rattle.hs_turns.specs.Definitions.{lengthened}
+use Rattle.hs_turns.proofs.Lengthened.{get-lengthened}
 use Rattle.hs_index.specs.Table.{Rows}
 use Rattle.hs_plan.specs.declared.definition.Rule.{Rule}
 use Rattle.hs_plan.specs.declared.definition.Rule.TheVariants as rule

@@ -4,8 +4,8 @@ use Rattle.std.specs.FinMap.{empty, entries}
 use Rattle.std.specs.List.{list_any}
 use Rattle.std.specs.Option.{option_map}
 use Rattle.hs_changes.specs.Settings.{Maps}
-use Rattle.hs_database.specs.Database.{Database, defined}
-use Rattle.hs_database.specs.Definitions.{lengthened, rows_after, with_rows}
+use Rattle.hs_turns.specs.Database.{Database, defined}
+use Rattle.hs_turns.specs.Definitions.{lengthened, rows_after, with_rows}
 use Rattle.hs_language.specs.Definitions.{makes_long, put_by}
 use Rattle.hs_language.specs.Validity.{is_long, types_in}
 use Rattle.hs_plan.specs.declared.definition.Definition.{Definition}

@@ -1,6 +1,6 @@
 -- Why rows stand against a definition.
 use Rattle.std.specs.Prelude.{Bool, true, false, Option, None, Some, Result, Ok, Err}
-use Rattle.hs_database.specs.Database.{Database}
+use Rattle.hs_turns.specs.Database.{Database}
 use Rattle.hs_language.specs.Definitions.{makes_long, violated_by}
 use Rattle.hs_language.specs.Words.{long_row_words, violation_words}
 use Rattle.hs_plan.specs.declared.definition.Definition.{Definition}

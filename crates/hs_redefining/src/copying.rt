@@ -3,7 +3,7 @@ ghost use Rattle.std.specs.Prelude.{◌≡◌, ℕ, IfOk, OnOk};
 ghost use Rattle.std.specs.FinMap.{get};
 ghost use Rattle.std.specs.List.{All};
 ghost use Rattle.hs_changes.specs.Settings.{Maps, set_row};
-ghost use Rattle.hs_database.specs.Definitions.{with_rows};
+ghost use Rattle.hs_turns.specs.Definitions.{with_rows};
 ghost use Rattle.hs_draft.specs.Drafted.{after};
 ghost use Rattle.hs_index.specs.Table.{Rows as TheRows};
 ghost use Rattle.hs_plainrows.specs.Ready.{IsReady};

@@ -1,6 +1,6 @@
 // What a definition makes of rows.
 ghost use Rattle.std.specs.Prelude.{◌≡◌, ℕ, List, IfOk};
-ghost use Rattle.hs_database.specs.Definitions.{default_value};
+ghost use Rattle.hs_turns.specs.Definitions.{default_value};
 ghost use Rattle.hs_plan.specs.declared.definition.Constraint.{Constraint as TheConstraint};
 ghost use Rattle.hs_plan.specs.declared.definition.Definition.TheVariants as d;
 ghost use Rattle.hs_redefining.specs.Effects.{IsEffect};

@@ -1,6 +1,6 @@
 // Whether a definition is refused that the catalogue allows.
 ghost use Rattle.std.specs.Prelude.{◌≡◌, ◌+◌, ◌^◌, ◌≤◌, Err, IfOk};
-ghost use Rattle.hs_database.specs.Database.{Database};
+ghost use Rattle.hs_turns.specs.Database.{Database};
 ghost use Rattle.hs_language.specs.Definitions as language;
 ghost use Rattle.hs_language.specs.Words as words;
 ghost use Rattle.hs_plainrows.specs.Ready.{IsReady};

@@ -2,7 +2,7 @@
 ghost use Rattle.std.specs.Prelude.{◌≡◌, ◌∷◌, [], OnOk, IfOk};
 ghost use Rattle.std.specs.FinMap.{empty, get};
 ghost use Rattle.hs_changes.specs.Settings.{Maps, set_row};
-ghost use Rattle.hs_database.specs.Definitions.{lengthened, rows_after, with_rows};
+ghost use Rattle.hs_turns.specs.Definitions.{lengthened, rows_after, with_rows};
 ghost use Rattle.hs_seated.specs.Rows.{AreRows};
 ghost use Rattle.hs_seated.specs.Seated.{IsSeated};
 ghost use Rattle.hs_redefining.specs.Effects.{rows_by};

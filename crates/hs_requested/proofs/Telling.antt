@@ -1,8 +1,8 @@
 -- What is told of texts.
 use Rattle.std.proofs.Common.{◌≡◌, ◌≢◌, ℕ, ◌+◌, true, length, List, Result, Ok, Err, sym, ap, ◌∙◌}
 use Rattle.hs_ast.specs.declared.statement.Stmt.{Stmt}
-use Rattle.hs_bound.specs.Bound.{bound}
-use Rattle.hs_bound.proofs.Alone.{alone}
+use Rattle.hs_statements.specs.Bound.{bound}
+use Rattle.hs_statements.proofs.Alone.{alone}
 use Rattle.hs_entries.specs.Entry.{is_session, place_of, statement_of}
 use Rattle.hs_lexer.specs.Reading.{tokens_of}
 use Rattle.hs_lexer.proofs.Fronts.{fault_found, tokens_found}

@@ -2,8 +2,8 @@
 use Rattle.std.proofs.Common.{◌≡◌, ℕ, Bool, true, Result, Ok, Err, refl, sym, ap, subst}
 use Rattle.hs_ast.specs.declared.statement.Stmt.{Stmt}
 use Rattle.hs_ast.specs.declared.statement.Stmt.TheVariants as s
-use Rattle.hs_bound.specs.Bound.{bound}
-use Rattle.hs_bound.proofs.Answered.{statement_answer}
+use Rattle.hs_statements.specs.Bound.{bound}
+use Rattle.hs_statements.proofs.Answered.{statement_answer}
 use Rattle.hs_entries.specs.Entry.{place_of, statement_of}
 use Rattle.hs_plan.specs.declared.fault.BindFault.{BindFault}
 use Rattle.hs_plan.specs.declared.plan.Plan.{Plan}

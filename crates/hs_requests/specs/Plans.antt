@@ -1,7 +1,7 @@
 -- What an entry means over a catalogue: its plan, or the words of its least fault.
 use Rattle.std.specs.Prelude.{◌≡◌, ℕ, Bool, true, false, Result, Ok, Err}
 use Rattle.hs_ast.specs.declared.statement.Stmt.{Stmt}
-use Rattle.hs_bound.specs.Bound.{bound}
+use Rattle.hs_statements.specs.Bound.{bound}
 use Rattle.hs_entries.specs.Entry.{place_of, statement_of}
 use Rattle.hs_plan.specs.declared.plan.Plan.{Plan}
 use Rattle.hs_plan.specs.declared.plan.Plan.TheVariants as p

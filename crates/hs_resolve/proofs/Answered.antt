@@ -1,14 +1,14 @@
 -- From what is meant to what is answered.
 use Rattle.std.proofs.Common.{◌≡◌, ℕ, List, None, Option, Result, subst, sym, ap, ◌∙◌}
 use Rattle.hs_columns.specs.declared.bound.BoundQuery.{BoundQuery}
-use Rattle.hs_meaning.specs.declared.column.PlacedColumn.{PlacedColumn}
+use Rattle.hs_meaning.specs.declared.placed.PlacedColumn.{PlacedColumn}
 use Rattle.hs_meaning.specs.Layers.{QueryMeaning}
 use Rattle.hs_meaning.specs.Parts.{Meaning, broken_at, by_one, of_one, part_by}
 use Rattle.hs_meaning.specs.Statements.{IsAnswer}
 use Rattle.hs_plan.specs.declared.fault.BindFault.{BindFault}
 use Rattle.hs_plan.specs.declared.fault.PlacedFault.{PlacedFault}
 use Rattle.hs_plan.specs.declared.query.Query.{Query}
-use Rattle.hs_surroundings.specs.Finding.{Least}
+use Rattle.hs_meaning.specs.Finding.{Least}
 use Rattle.hs_typed.specs.declared.typed.Typed.{Typed}
 use Rattle.hs_typed.specs.Faults.{least, noted}
 use Rattle.hs_typed.specs.Rules.{Outcome}

@@ -7,7 +7,7 @@ use Rattle.hs_meaning.specs.Expressions.{aggregate_meaning}
 use Rattle.hs_meaning.specs.Parts.{Meaning, broken_at, by_one, of_one, part_by, refused}
 use Rattle.hs_meaning.specs.Surroundings.{Surroundings}
 use Rattle.hs_plan.specs.declared.fault.Cause.TheVariants as cause
-use Rattle.hs_surroundings.specs.Finding.{Finds, Least}
+use Rattle.hs_meaning.specs.Finding.{Finds, Least}
 use Rattle.hs_typed.specs.declared.typed.Typed.{Typed}
 use Rattle.hs_typed.specs.Faults.{fault_at, noted}
 use Rattle.hs_typed.specs.Rules.{Outcome, aggregate_typed}

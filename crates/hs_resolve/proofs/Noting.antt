@@ -8,7 +8,7 @@ use Rattle.hs_meaning.specs.Layers.{BodyMeaning}
 use Rattle.hs_meaning.specs.Selects.{behind}
 use Rattle.hs_meaning.specs.Surroundings.{Surroundings}
 use Rattle.hs_plan.specs.declared.fault.PlacedFault.{PlacedFault}
-use Rattle.hs_surroundings.specs.Finding.{Least}
+use Rattle.hs_meaning.specs.Finding.{Least}
 use Rattle.hs_typed.specs.Faults.{noted, with_fault}
 
 pub noted_more : (f : Least) (a b : List PlacedFault) → noted f (a ++ b) ≡ noted (noted f a) b

@@ -7,7 +7,7 @@ use Rattle.hs_clauses.specs.declared.bound.BoundBody.{BoundBody}
 use Rattle.hs_clauses.specs.declared.bound.KeysOver.{KeysOver}
 use Rattle.hs_clauses.specs.declared.bound.KeysOver.TheVariants as over
 use Rattle.hs_clauses.specs.Bound.{FindsBody, keys_in}
-use Rattle.hs_meaning.specs.declared.column.Shown.{Shown}
+use Rattle.hs_meaning.specs.declared.placed.Shown.{Shown}
 use Rattle.hs_meaning.specs.Expressions.{all_in}
 use Rattle.hs_meaning.specs.From.{From, elements}
 use Rattle.hs_meaning.specs.Layers.{BodyPart, SelectLayer}
@@ -18,7 +18,7 @@ use Rattle.hs_meaning.specs.Trees.{element_of, layer_of, select_of}
 use Rattle.hs_plan.specs.declared.query.FromItem.{FromItem}
 use Rattle.hs_schema.specs.Catalogue.{Things}
 use Rattle.hs_scope.specs.declared.from_table.FromTable.{FromTable}
-use Rattle.hs_surroundings.specs.Finding.{Least}
+use Rattle.hs_meaning.specs.Finding.{Least}
 use Rattle.hs_typed.specs.declared.typed.Typed.{Typed}
 use Rattle.hs_typed.specs.Faults.{noted}
 use Rattle.hs_resolve.proofs.Layers.{select_is}

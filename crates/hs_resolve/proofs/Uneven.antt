@@ -10,7 +10,7 @@ use Rattle.hs_meaning.specs.Layers.{BodyMeaning, RowPart}
 use Rattle.hs_meaning.specs.Queries.{above, are_even, even_values, row_in, rows_below, uneven, uneven_values, unknown, values_meaning}
 use Rattle.hs_meaning.specs.Surroundings.{Surroundings, in_values}
 use Rattle.hs_plan.specs.declared.fault.PlacedFault.{PlacedFault}
-use Rattle.hs_surroundings.specs.Finding.{Least}
+use Rattle.hs_meaning.specs.Finding.{Least}
 use Rattle.hs_typed.specs.Faults.{noted}
 use Rattle.hs_resolve.proofs.Noting.{two_noted}
 

@@ -8,7 +8,7 @@ use Rattle.hs_clauses.specs.declared.values.BoundRows.{BoundRows}
 use Rattle.hs_meaning.specs.Parts.{Meaning, with_part}
 use Rattle.hs_meaning.specs.Queries.{Rows}
 use Rattle.hs_plan.specs.declared.query.ValuesRow.{ValuesRow}
-use Rattle.hs_surroundings.specs.Finding.{Least}
+use Rattle.hs_meaning.specs.Finding.{Least}
 use Rattle.hs_typed.specs.Faults.{noted}
 
 abbrev pub FindsAll : {A : Type 0} → Meaning (List A) → Least → Least → Result (Option (Vec A Global)) NoMemory → Type 0

@@ -1,7 +1,7 @@
 -- A query that breaks no rule, with its output columns.
 use Rattle.std.specs.Prelude.{List, Option}
 use Rattle.std.specs.Option.{option_map}
-use Rattle.hs_meaning.specs.declared.column.PlacedColumn.{PlacedColumn}
+use Rattle.hs_meaning.specs.declared.placed.PlacedColumn.{PlacedColumn}
 use Rattle.hs_plan.specs.declared.query.Query.{Query}
 use Rattle.hs_resolve.specs.declared.statements.StatementQuery.{StatementQuery}
 

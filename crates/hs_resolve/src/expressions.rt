@@ -4,8 +4,8 @@ ghost use Rattle.hs_meaning.specs.Layers.{means};
 ghost use Rattle.hs_meaning.specs.Parts.{by_one};
 ghost use Rattle.hs_meaning.specs.Surroundings.{in_aggregate};
 ghost use Rattle.hs_meaning.specs.Trees.{form_of, part_of};
-ghost use Rattle.hs_surroundings.specs.Around.{seen};
-ghost use Rattle.hs_surroundings.specs.Finding.{Finds};
+ghost use Rattle.hs_meaning.specs.Around.{seen};
+ghost use Rattle.hs_meaning.specs.Finding.{Finds};
 ghost use Rattle.hs_typed.specs.Rules.{unary_typed};
 
 use crate::lists::{bind_all, bind_arms};
@@ -17,9 +17,9 @@ use hs_conclusions::{
     aggregate, between, binary, call, case, condition, count_rows, in_list, like, substring, trim,
     unary,
 };
+use hs_meaning::{Surroundings, column};
 use hs_plan::{Aggregate, Unary};
 use hs_schema::Catalog;
-use hs_surroundings::{Surroundings, column};
 use hs_typed::{Faults, Typed, bind_literal, sql_type};
 use std::alloc::Global;
 

@@ -6,8 +6,8 @@ ghost use Rattle.hs_meaning.specs.From as spec;
 ghost use Rattle.hs_meaning.specs.Parts.{known};
 ghost use Rattle.hs_meaning.specs.Surroundings.{over_rows};
 ghost use Rattle.hs_meaning.specs.Trees.{element_of, join_of, part_of, table_of};
-ghost use Rattle.hs_surroundings.specs.Around.{seen};
-ghost use Rattle.hs_surroundings.specs.Finding.{Finds};
+ghost use Rattle.hs_meaning.specs.Around.{seen};
+ghost use Rattle.hs_meaning.specs.Finding.{Finds};
 ghost use Rattle.hs_typed.specs.Faults.{noted};
 
 use crate::bodies::append;
@@ -21,10 +21,10 @@ use hs_clauses::{
     named_table, shown_name,
 };
 use hs_columns::with_part;
+use hs_meaning::Surroundings;
 use hs_plan::Source;
 use hs_schema::Catalog;
 use hs_scope::Scope;
-use hs_surroundings::Surroundings;
 use hs_typed::{Faults, Typed};
 use sqlite_items::{Boxed, Items};
 use std::alloc::Global;

@@ -3,14 +3,14 @@ ghost use Rattle.std.specs.Prelude.{map};
 ghost use Rattle.hs_meaning.specs.Expressions as spec;
 ghost use Rattle.hs_meaning.specs.Trees.{arm_of, part_of};
 ghost use Rattle.hs_resolve.specs.Bound.{FindsAll};
-ghost use Rattle.hs_surroundings.specs.Around.{seen};
+ghost use Rattle.hs_meaning.specs.Around.{seen};
 
 use crate::expressions::bind_expression;
 use hs_ast::{CaseArm, Expression};
 use hs_base::NoMemory;
 use hs_conclusions::{arm, with_part};
+use hs_meaning::Surroundings;
 use hs_schema::Catalog;
-use hs_surroundings::Surroundings;
 use hs_typed::{Faults, Typed, TypedArm};
 use std::alloc::Global;
 

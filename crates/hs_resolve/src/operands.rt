@@ -4,7 +4,7 @@ ghost use Rattle.std.specs.Option.{option_map};
 ghost use Rattle.hs_meaning.specs.Expressions as spec;
 ghost use Rattle.hs_meaning.specs.Expressions.{kinds_of};
 ghost use Rattle.hs_meaning.specs.Parts.{judged, of_three, of_two};
-ghost use Rattle.hs_surroundings.specs.Finding.{Finds};
+ghost use Rattle.hs_meaning.specs.Finding.{Finds};
 ghost use Rattle.hs_typed.specs.Rules.{in_query_typed, subquery_typed};
 
 use hs_ast::Word;

@@ -5,8 +5,8 @@ use hs_ast::{Expression, Query};
 use hs_base::NoMemory;
 use hs_binding::Binder;
 use hs_columns::BoundQuery;
+use hs_meaning::Surroundings;
 use hs_schema::Catalog;
-use hs_surroundings::Surroundings;
 use hs_typed::{Faults, Typed};
 use std::alloc::Global;
 

@@ -4,16 +4,16 @@ ghost use Rattle.hs_conclusions.specs.Bound.{bound};
 ghost use Rattle.hs_meaning.specs.Expressions as spec;
 ghost use Rattle.hs_meaning.specs.Parts.{refused};
 ghost use Rattle.hs_meaning.specs.Trees.{query_of};
-ghost use Rattle.hs_surroundings.specs.Around.{seen};
-ghost use Rattle.hs_surroundings.specs.Finding.{Finds};
+ghost use Rattle.hs_meaning.specs.Around.{seen};
+ghost use Rattle.hs_meaning.specs.Finding.{Finds};
 
 use crate::operands::{in_query, subquery};
 use crate::queries::bind_query;
 use hs_ast::Query;
 use hs_base::NoMemory;
 use hs_conclusions::exists;
+use hs_meaning::{Surroundings, note_types};
 use hs_schema::Catalog;
-use hs_surroundings::{Surroundings, note_types};
 use hs_typed::{Faults, Typed};
 use std::alloc::Global;
 

@@ -9,10 +9,11 @@ use Rattle.std.proofs.lemmas.Bool.{cases_Bool, and_parts, leb-true, le-leb}
 use Rattle.std.proofs.lemmas.Fmt.{decimal_is_IsNumeral_wide}
 use Rattle.std.proofs.lemmas.List.Sums.{prefix_len_passes}
 use Rattle.std.proofs.lemmas.Str.Parse.{digit_from_value}
+use Rattle.hs_lexer.specs.Bytes.{is_digit}
 use Rattle.hs_nametext.proofs.NameLemmas.{small_boundary}
 use Rattle.hs_valuetext.specs.Values.{IsUnsigned}
 use Rattle.hs_valuetext.proofs.TextLemmas.{Alone}
-use Rattle.hs_rowtext.specs.Numbers.{is_digit, begins_digit, IsNumberAt}
+use Rattle.hs_rowtext.specs.Numbers.{begins_digit, IsNumberAt}
 
 all_prefix : (xs ys : List ℕ) → list_all is_digit xs ≡ true → prefix_len is_digit (xs ++ ys) ≡ length xs + prefix_len is_digit ys
 all_prefix [] ys h = omega arith

@@ -3,7 +3,7 @@ use Rattle.std.specs.Prelude.{◌≡◌, ◌≤◌, ◌+◌, ◌*◌, ℕ, not, 
 use Rattle.hs_claims.specs.Blockers.{has}
 use Rattle.hs_claims.specs.Session.{IsSession}
 use Rattle.hs_futures.specs.Futures.{future_of}
-use Rattle.hs_histories.specs.Each.{Each}
+use Rattle.hs_turns.specs.Each.{Each}
 use Rattle.hs_lines.specs.Names.{IsKnown}
 use Rattle.hs_queue.specs.Entries.{entry_of}
 use Rattle.hs_queue.specs.Queues.{IsQueue, count_of}

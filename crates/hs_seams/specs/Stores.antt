@@ -3,10 +3,10 @@ use Rattle.std.specs.Prelude.{◌≡◌, ℕ, Bool, true, false, List, [], ◌�
 use Rattle.hs_ast.specs.declared.statement.Stmt.{Stmt}
 use Rattle.hs_changes.specs.Changes.{count_all_inserted}
 use Rattle.hs_claims.specs.declared.model.ControlKind.TheVariants.{Locks}
-use Rattle.hs_database.specs.Database.{Database, has_room, view}
-use Rattle.hs_database.specs.Definitions.{control_after}
-use Rattle.hs_histories.specs.Histories.{Commit, now}
-use Rattle.hs_histories.specs.Language.{Laws, Outcome, Stands}
+use Rattle.hs_turns.specs.Database.{Database, has_room, view}
+use Rattle.hs_turns.specs.Definitions.{control_after}
+use Rattle.hs_turns.specs.Histories.{Commit, now}
+use Rattle.hs_turns.specs.Language.{Laws, Outcome, Stands}
 use Rattle.hs_plan.specs.declared.change.Change.{Change}
 use Rattle.hs_plan.specs.declared.change.Change.TheVariants as change
 use Rattle.hs_plan.specs.declared.definition.Definition.{Definition}

@@ -1,6 +1,6 @@
 -- The world of a run.
 use Rattle.std.specs.Prelude.{ℕ, List, [], ◌∷◌, ◌++◌, length, drop}
-use Rattle.hs_histories.specs.Histories.{Commit}
+use Rattle.hs_turns.specs.Histories.{Commit}
 use Rattle.hs_sides.specs.Sides.{Run}
 
 -- what a run is over, and the text that a commit has in the log behind those of the run before it

@@ -2,8 +2,8 @@
 ghost use Rattle.std.specs.Prelude.{◌≡◌, ◌≤◌, ◌++◌, ◌∷◌, [], List, Ok, true, length, take, IfOk, OnOk, OnErr};
 ghost use Rattle.hs_ast.specs.declared.statement.Stmt.{Stmt as TheStmt};
 ghost use Rattle.hs_claims.specs.Session.{IsSession};
-ghost use Rattle.hs_database.specs.Database.{has_room};
-ghost use Rattle.hs_histories.specs.Histories.{Commit};
+ghost use Rattle.hs_turns.specs.Database.{has_room};
+ghost use Rattle.hs_turns.specs.Histories.{Commit};
 ghost use Rattle.hs_plan.specs.declared.change.Change.{Change as TheChange};
 ghost use Rattle.hs_plan.specs.declared.change.Change.TheVariants as change;
 ghost use Rattle.hs_queue.specs.Entries.{entry_of};

@@ -3,8 +3,8 @@ use Rattle.std.proofs.Common.{◌≡◌, ℕ, suc, ◌+◌, ◌<◌, ◌||◌, L
 use Rattle.std.proofs.Math.Seq.{take-suc}
 use Rattle.std.proofs.lemmas.List.{append-nil, length-take-le}
 use Rattle.std.specs.List.{list_any}
-use Rattle.hs_database.specs.Database.{is_definition}
-use Rattle.hs_database.specs.Numbers.{final_change, number_in, numbered, numbers_from}
+use Rattle.hs_turns.specs.Database.{is_definition}
+use Rattle.hs_turns.specs.Numbers.{final_change, number_in, numbered, numbers_from}
 use Rattle.hs_plan.specs.declared.change.Change.{Change}
 use Rattle.hs_plan.specs.declared.change.Change.TheVariants as change
 

@@ -3,8 +3,8 @@ use Rattle.std.proofs.Common.{◌≡◌, ℕ, zero, suc, ◌+◌, ◌<◌, Bool,
 use Rattle.std.proofs.lemmas.List.{length-take-le}
 use Rattle.std.proofs.lemmas.List.Sums.{fold_more}
 use Rattle.std.specs.List.{list_any}
-use Rattle.hs_database.specs.Database.{Database, apply, make}
-use Rattle.hs_database.proofs.Applied.{apply-count}
+use Rattle.hs_turns.specs.Database.{Database, apply, make}
+use Rattle.hs_turns.proofs.Applied.{apply-count}
 use Rattle.hs_plan.specs.declared.change.Change.{Change}
 
 pub none_at : {X : Type 0} (p : X → Bool) (xs : List X) (i : ℕ) (x : X) → list_any p xs ≡ false → i < length xs → x ≡ get_or xs i x → p x ≡ false

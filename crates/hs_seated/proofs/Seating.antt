@@ -9,7 +9,7 @@ use Rattle.std.specs.List.{list_any}
 use Rattle.hs_changes.specs.Changes.{after_changes, count_all_inserted, count_inserted, setting_of, settings_of}
 use Rattle.hs_changes.specs.Settings.{Maps, Setting, is_set, names, set_row, set_rows}
 use Rattle.hs_changes.proofs.Applied.{after_changes-append, settings_of-append}
-use Rattle.hs_database.specs.Database.{is_definition}
+use Rattle.hs_turns.specs.Database.{is_definition}
 use Rattle.hs_draft.specs.Drafted.{after, touched}
 use Rattle.hs_plan.specs.declared.change.Change.{Change}
 use Rattle.hs_sentences.specs.Asking.{is_one_of}

@@ -3,7 +3,7 @@ use Rattle.std.specs.Prelude.{◌≡◌, ℕ, ◌||◌, false, List, length}
 use Rattle.std.specs.List.{list_any}
 use Rattle.hs_changes.specs.Changes.{after_changes, count_all_inserted, settings_of}
 use Rattle.hs_changes.specs.Settings.{Maps, Setting, is_set, set_row}
-use Rattle.hs_database.specs.Database.{is_definition}
+use Rattle.hs_turns.specs.Database.{is_definition}
 use Rattle.hs_draft.specs.Drafted.{before, touched}
 use Rattle.hs_plan.specs.declared.change.Change.{Change}
 use Rattle.hs_sentences.specs.Asking.{is_one_of}

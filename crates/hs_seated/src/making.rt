@@ -1,7 +1,7 @@
 // The changes of a commit on rows.
 ghost use Rattle.std.specs.Prelude.{◌≡◌, ◌+◌, ◌^◌, ◌≤◌, false, length, OnOk};
 ghost use Rattle.std.specs.List.{list_any};
-ghost use Rattle.hs_database.specs.Database.{Database, apply, is_definition, make};
+ghost use Rattle.hs_turns.specs.Database.{Database, apply, is_definition, make};
 ghost use Rattle.hs_seated.specs.Rows.{AreRows};
 
 use crate::both_rows::BothRows;

@@ -1,6 +1,6 @@
 // The numbers that inserted rows get at a commit.
 ghost use Rattle.std.specs.Prelude.{◌≡◌, ◌+◌, ◌^◌, ◌≤◌, ◌++◌, length, map, IfOk, OnOk};
-ghost use Rattle.hs_database.specs.Numbers as spec;
+ghost use Rattle.hs_turns.specs.Numbers as spec;
 
 use hs_base::{NoMemory, RowNo};
 use hs_plan::{Change, Changes};

@@ -5,7 +5,7 @@ ghost use Rattle.std.specs.List.{list_any};
 ghost use Rattle.std.specs.Option.{option_copied};
 ghost use Rattle.hs_changes.specs.Changes.{own_row};
 ghost use Rattle.hs_changes.specs.Settings.{Maps, set_row};
-ghost use Rattle.hs_database.specs.Database.{Database, apply, is_definition};
+ghost use Rattle.hs_turns.specs.Database.{Database, apply, is_definition};
 ghost use Rattle.hs_draft.specs.Drafted.{after, before, touched};
 ghost use Rattle.hs_plan.specs.declared.change.Change.{Change as TheChange};
 ghost use Rattle.hs_seated.specs.Rows.{AreRows};

@@ -5,7 +5,7 @@ use Rattle.std.proofs.lemmas.Option.{slice_get-get_or, slice_get-map}
 use Rattle.std.specs.Option.{option_map}
 use Rattle.std.specs.Prelude.{slice_get}
 use Rattle.hs_values.specs.declared.value.Value.{Value}
-use Rattle.hs_function.specs.Numbers.{Outcome}
+use Rattle.hs_expression.specs.Numbers.{Outcome}
 use Rattle.hs_answer.specs.Layers.{Line}
 use Rattle.hs_answer.specs.Places.{over_row}
 use Rattle.hs_answer.specs.Selects.{bare, row_of, rows_of}

@@ -9,7 +9,7 @@ use Rattle.hs_values.specs.Outcome.{◌>>=◌}
 use Rattle.hs_values.specs.Sorted.{keyed_rows}
 use Rattle.hs_expression.specs.Outcomes.{all_or_least}
 use Rattle.hs_expression.specs.Surroundings.{Rows, Surroundings, Valued}
-use Rattle.hs_function.specs.Numbers.{Outcome}
+use Rattle.hs_expression.specs.Numbers.{Outcome}
 use Rattle.hs_rel.specs.Bags.{distinct_rows}
 use Rattle.hs_rel.specs.Selection.{selected}
 use Rattle.hs_answer.specs.Bodies.{combined, side_rows, sides_combined, widened}

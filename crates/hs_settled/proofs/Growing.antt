@@ -4,7 +4,7 @@ use Rattle.hs_values.specs.declared.fault.EvalFault.{EvalFault}
 use Rattle.hs_values.specs.declared.value.Value.{Value}
 use Rattle.hs_values.specs.Outcome.{◌>>=◌}
 use Rattle.hs_expression.specs.Surroundings.{Surroundings, Valued}
-use Rattle.hs_function.specs.Numbers.{Outcome}
+use Rattle.hs_expression.specs.Numbers.{Outcome}
 use Rattle.hs_answer.specs.Layers.{Line, SortBy}
 use Rattle.hs_answer.specs.Order.{keys_at}
 use Rattle.hs_answer.specs.Places.{values_at}

@@ -5,8 +5,8 @@ use Rattle.hs_plan.specs.declared.kind.Kind.{Kind}
 use Rattle.hs_values.specs.declared.fault.EvalFault.{EvalFault}
 use Rattle.hs_values.specs.declared.value.Value.{Value}
 use Rattle.hs_values.specs.Outcome.{◌>>=◌}
-use Rattle.hs_function.specs.Kinds.{given_at}
-use Rattle.hs_function.specs.Numbers.{Outcome}
+use Rattle.hs_expression.specs.Kinds.{given_at}
+use Rattle.hs_expression.specs.Numbers.{Outcome}
 use Rattle.hs_answer.specs.Bodies.{given_row}
 
 -- the values that are given already, and behind them those that are left

@@ -5,8 +5,8 @@ use Rattle.hs_values.specs.declared.value.Value.{Value}
 use Rattle.hs_values.specs.Outcome.{◌>>=◌}
 use Rattle.hs_plan.specs.declared.kind.Kind.{Kind}
 use Rattle.hs_expression.specs.Surroundings.{Rows, or_null}
-use Rattle.hs_function.specs.Kinds.{given_at}
-use Rattle.hs_function.specs.Numbers.{Outcome}
+use Rattle.hs_expression.specs.Kinds.{given_at}
+use Rattle.hs_expression.specs.Numbers.{Outcome}
 
 -- a row with one value more. Its first fault is that of all
 abbrev pub with_value : Result (List Value) EvalFault → Outcome → Result (List Value) EvalFault

@@ -9,7 +9,7 @@ use Rattle.hs_values.specs.Outcome.{◌>>=◌}
 use Rattle.hs_values.specs.Sorted.{keyed_rows}
 use Rattle.hs_expression.specs.Outcomes.{all_or_least}
 use Rattle.hs_expression.specs.Surroundings.{Rows}
-use Rattle.hs_function.specs.Numbers.{Outcome}
+use Rattle.hs_expression.specs.Numbers.{Outcome}
 use Rattle.hs_rel.specs.Bags.{distinct_rows}
 use Rattle.hs_answer.specs.Bodies.{combined, widened}
 use Rattle.hs_answer.specs.Groups.{parted, without_keys}

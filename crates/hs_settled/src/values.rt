@@ -3,7 +3,7 @@ ghost use Rattle.std.specs.Prelude.{◌≡◌, IfOk};
 ghost use Rattle.hs_answer.specs.Bodies.{given_row};
 ghost use Rattle.hs_settled.specs.Columns.{given_value};
 
-use hs_function::given_at;
+use hs_expression::given_at;
 use hs_plan::Kind;
 use hs_values::{EvalFault, Row, Value};
 use std::alloc::{AllocError, Global};

@@ -10,11 +10,11 @@ use Rattle.hs_schema.specs.Catalogue.{Text}
 use Rattle.hs_sessions.specs.declared.control.Control.{Control}
 use Rattle.hs_sessions.specs.declared.control.ControlReply.{ControlReply}
 use Rattle.hs_sessions.specs.Settings.{controlled}
-use Rattle.hs_database.specs.Database.{Database}
-use Rattle.hs_histories.specs.Transactions.Statement.{Data, OnSession}
-use Rattle.hs_histories.specs.Histories.{Open, base, commit_of, is_free, newer, no_conflict, others}
-use Rattle.hs_histories.specs.Events.{Event, definition_commit, said}
-use Rattle.hs_histories.specs.Events.{Act as act}
+use Rattle.hs_turns.specs.Database.{Database}
+use Rattle.hs_turns.specs.Transactions.Statement.{Data, OnSession}
+use Rattle.hs_turns.specs.Histories.{Open, base, commit_of, is_free, newer, no_conflict, others}
+use Rattle.hs_turns.specs.Events.{Event, definition_commit, said}
+use Rattle.hs_turns.specs.Events.{Act as act}
 use Rattle.hs_turns.specs.Dialect.{Dialect, Request, language_of, open_transaction}
 use Rattle.hs_turns.specs.Dialect.{Request as request}
 use Rattle.hs_turns.specs.Lines.{Words, First}

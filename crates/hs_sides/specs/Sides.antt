@@ -1,8 +1,8 @@
 -- What of a machine an engine keeps: what its attempts look at and change.
 use Rattle.std.specs.Prelude.{ℕ, ◌||◌, Bool, true, false, if◌then◌else◌, List, [], ◌∷◌, ◌++◌}
 use Rattle.hs_schema.specs.Catalogue.{Text}
-use Rattle.hs_database.specs.Database.{Database}
-use Rattle.hs_histories.specs.Histories.{History, now}
+use Rattle.hs_turns.specs.Database.{Database}
+use Rattle.hs_turns.specs.Histories.{History, now}
 use Rattle.hs_turns.specs.Dialect.{Dialect}
 use Rattle.hs_turns.specs.Waiting.{Entry, Waits, answered}
 use Rattle.hs_turns.specs.Machine.{Machine, Settings, new_settings, is_open}

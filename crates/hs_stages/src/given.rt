@@ -2,7 +2,7 @@
 ghost use Rattle.std.specs.Prelude.{◌≡◌};
 ghost use Rattle.hs_answer.specs.Bodies.{widened};
 
-use hs_function::given_at;
+use hs_expression::given_at;
 use hs_plan::Kind;
 use hs_values::{EvalFault, Row, Value};
 

@@ -1,0 +1,17 @@
+pub mod Alone
+pub mod Answered
+pub mod BrokenRules
+pub mod KnownChanges
+pub mod KnownDefinitions
+pub mod KnownExpressions
+pub mod KnownFrom
+pub mod KnownNames
+pub mod KnownParts
+pub mod KnownQueries
+pub mod KnownSelects
+pub mod KnownTrees
+pub mod Naming
+pub mod NoWant
+pub mod Numbers
+pub mod SeenColumns
+pub mod Taken

@@ -1,1 +1,4 @@
 pub mod Statements
+pub mod Answers
+pub mod Bound
+pub mod Naming

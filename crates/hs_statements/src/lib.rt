@@ -1,7 +1,9 @@
-//! Every statement bound over a catalogue, each by its kind. What binds expressions and queries is handed in.
+//! What statements mean over a catalogue, as a function, with the laws of that meaning; and every statement bound over a catalogue,
+//! each by its kind. What binds expressions and queries is handed in.
 #![tactic(auto)]
 
 mod bound;
+pub mod laws;
 mod plans;
 mod session;
 

@@ -3,7 +3,7 @@ use Rattle.std.proofs.Common.{◌≡◌, ℕ, ◌+◌, ◌&&◌, true, List, [],
 use Rattle.std.specs.Prelude.{Bool, nat_le}
 use Rattle.std.specs.Str.{is_utf8}
 use Rattle.std.proofs.lemmas.Bool.{and_from, and_parts}
-use Rattle.hs_database.specs.Database.{Database}
+use Rattle.hs_turns.specs.Database.{Database}
 use Rattle.hs_entries.specs.Entry.{is_session}
 use Rattle.hs_entries.specs.declared.item.Item.{Item}
 use Rattle.hs_entries.specs.declared.item.Item.TheVariants as item
@@ -12,7 +12,7 @@ use Rattle.hs_futures.specs.Laws.{IsTold}
 use Rattle.hs_futures.proofs.Whole.{whole_true}
 use Rattle.hs_plainwords.specs.Plain.{are_called, is_called}
 use Rattle.hs_plainwords.proofs.Turns.{one_told}
-use Rattle.hs_replay.specs.Redone.{State}
+use Rattle.hs_logged.specs.Redone.{State}
 use Rattle.hs_run.specs.Items.{AreTold, is_told}
 use Rattle.hs_run.specs.Running.{IsTrue}
 use Rattle.hs_schema.specs.Catalogue.{Things}

@@ -1,9 +1,9 @@
 -- What texts made, in a system.
 use Rattle.std.proofs.Common.{◌≡◌, ℕ, ◌+◌, ◌≤◌, List, [], ◌∷◌, length, sym, ap, subst, arith}
 use Rattle.std.specs.Prelude.{Bool}
-use Rattle.hs_database.specs.Database.{Database, apply}
-use Rattle.hs_database.proofs.Applied.{apply-count}
-use Rattle.hs_replay.specs.Redone.{IsRedone, State}
+use Rattle.hs_turns.specs.Database.{Database, apply}
+use Rattle.hs_turns.proofs.Applied.{apply-count}
+use Rattle.hs_logged.specs.Redone.{IsRedone, State}
 use Rattle.hs_schema.specs.Catalogue.{Things}
 use Rattle.hs_seams.specs.Stores.{IsWorld}
 use Rattle.hs_system.specs.Governed.{IsGoverned}

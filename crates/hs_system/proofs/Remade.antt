@@ -4,20 +4,18 @@ use Rattle.std.specs.Prelude.{Bool, nat_le, None}
 use Rattle.std.proofs.Math.Seq.{take-append_seam}
 use Rattle.std.proofs.lemmas.Bool.{and_parts}
 use Rattle.std.proofs.lemmas.List.Sums.{fold-append}
-use Rattle.hs_database.specs.Database.{Database}
-use Rattle.hs_database.specs.Numbers.{numbered}
+use Rattle.hs_turns.specs.Database.{Database}
+use Rattle.hs_turns.specs.Numbers.{numbered}
 use Rattle.hs_entries.specs.declared.item.Item.{Item}
 use Rattle.hs_futures.proofs.Whole.{whole_made}
 use Rattle.hs_gate.specs.Groups.{spelled}
-use Rattle.hs_histories.specs.Histories.{Commit, make, now, state}
+use Rattle.hs_turns.specs.Histories.{Commit, make, now, state}
 use Rattle.hs_logged.specs.Entered.{Decides, HasText}
 use Rattle.hs_logged.specs.Logged.{last_behind, session_of}
 use Rattle.hs_logged.specs.Over.{room_over, text_over, texts_by}
 use Rattle.hs_logged.proofs.Worlds.{last_more}
-use Rattle.hs_replay.specs.Kept.{left_by}
-use Rattle.hs_replay.specs.Redone.{IsRedone, State, after}
-use Rattle.hs_roomy.specs.Room.{HadRoom}
-use Rattle.hs_roomy.proofs.Runs.{had_room}
+use Rattle.hs_logged.specs.Kept.{left_by}
+use Rattle.hs_logged.specs.Redone.{IsRedone, State, after}
 use Rattle.hs_schema.specs.Catalogue.{Things}
 use Rattle.hs_seams.specs.World.{World, texts_from}
 use Rattle.hs_turns.specs.Dialect.{Dialect}
@@ -26,8 +24,10 @@ use Rattle.hs_turns.specs.Turns.{weight}
 use Rattle.hs_turns.proofs.Promised.{valid}
 use Rattle.hs_system.specs.Governed.{IsGoverned}
 use Rattle.hs_system.specs.Openings.{IsSound, Make, ended_at, history_of, log_at, may, room_behind, texts_of, world_of}
+use Rattle.hs_system.specs.Room.{HadRoom}
 use Rattle.hs_system.specs.System.{System}
 use Rattle.hs_system.proofs.Grounded.{made_regular}
+use Rattle.hs_system.proofs.Runs.{had_room}
 
 -- ---- first ones of texts
 
@@ -129,6 +129,10 @@ module _ (is_named : Things → Bool) (Regular : Database → Type 0) (y : Syste
       let ok = valid w.run.dialect w.run.opening w.run.made language.laws (regular.valid room sound.clean, regular.rows) items (weight (start w.run.opening items)) (length front) in
       let same : state at.database (all items) (length front) ≡ now at.database front = ap (λ (l : List Commit). now at.database (take (length front) l)) is ∙ ap (now at.database) (take-append_seam front later) in
       g.valid room (now at.database front) (subst (λ (db : Database). w.run.dialect.is_valid db ≡ true) same ok)
+
+  -- what there is in the end violates nothing
+  pub ends_so : (texts : List (List ℕ)) (items : List Item) → IsSound y texts at → y.violated (ended_at y at made size items).database ≡ None
+  ends_so texts items sound = clean texts sound items (all items) [] (sym (append-nil (all items)))
 
   pub valid_so : (texts : List (List ℕ)) (items : List Item) (front rest : List (List ℕ)) → IsSound y texts at → texts_of y at made size items ≡ front ++ rest → (next : State) × (Make y at front next × (y.violated next.database ≡ None))
   valid_so texts items front rest sound is =

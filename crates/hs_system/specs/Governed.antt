@@ -3,10 +3,10 @@ use Rattle.std.specs.Prelude.{◌≡◌, ℕ, Bool, true, List, Ok, None, Option
 use Rattle.hs_base.specs.declared.numbers.SessionNo.{SessionNo}
 use Rattle.hs_claims.specs.declared.model.ControlKind.TheVariants.{Locks}
 use Rattle.hs_committext.specs.Commits.{IsCommitText}
-use Rattle.hs_database.specs.Database.{Database, IsNumbered, apply}
-use Rattle.hs_database.specs.Definitions.{control_after}
-use Rattle.hs_histories.specs.Histories.{Commit}
-use Rattle.hs_histories.specs.Language.{Laws}
+use Rattle.hs_turns.specs.Database.{Database, IsNumbered, apply}
+use Rattle.hs_turns.specs.Definitions.{control_after}
+use Rattle.hs_turns.specs.Histories.{Commit}
+use Rattle.hs_turns.specs.Language.{Laws}
 use Rattle.hs_logged.specs.Over.{TestsTexts}
 use Rattle.hs_plan.specs.declared.change.Change.{Change}
 use Rattle.hs_plan.specs.declared.definition.Definition.{Definition}

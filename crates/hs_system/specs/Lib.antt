@@ -1,3 +1,5 @@
-pub mod System
-pub mod Openings
 pub mod Governed
+pub mod Meaning
+pub mod Openings
+pub mod Room
+pub mod System

@@ -1,13 +1,13 @@
 -- What a run is over what the texts of a log made, in a system.
 use Rattle.std.specs.Prelude.{◌≡◌, ℕ, ◌&&◌, Bool, true, List, [], None}
-use Rattle.hs_database.specs.Numbers.{numbered}
+use Rattle.hs_turns.specs.Numbers.{numbered}
 use Rattle.hs_entries.specs.declared.item.Item.{Item}
 use Rattle.hs_futures.specs.Futures.{future_of}
-use Rattle.hs_histories.specs.Histories.{Commit, History, now}
+use Rattle.hs_turns.specs.Histories.{Commit, History, now}
 use Rattle.hs_logged.specs.Over.{room_over, text_over}
 use Rattle.hs_logged.specs.declared.logbook.Logbook.{Logbook}
-use Rattle.hs_replay.specs.Kept.{left_by}
-use Rattle.hs_replay.specs.Redone.{AreRedone, State, Takes}
+use Rattle.hs_logged.specs.Kept.{left_by}
+use Rattle.hs_logged.specs.Redone.{AreRedone, State, Takes}
 use Rattle.hs_run.specs.Future.{Future}
 use Rattle.hs_run.specs.Pieces.{made_by}
 use Rattle.hs_run.specs.Running.{pieces}

@@ -1,10 +1,10 @@
 -- A database system: its language, how its commits are logged, and which of them may be made again.
 use Rattle.std.specs.Prelude.{ℕ, Bool, List, Option}
-use Rattle.hs_database.specs.Database.{Database}
-use Rattle.hs_histories.specs.Histories.{Commit}
+use Rattle.hs_turns.specs.Database.{Database}
+use Rattle.hs_turns.specs.Histories.{Commit}
 use Rattle.hs_logged.specs.Over.{TextTest}
-use Rattle.hs_replay.specs.Reading.{Test}
-use Rattle.hs_ruletext.specs.Conditions.{Wording}
+use Rattle.hs_logged.specs.Reading.{Test}
+use Rattle.hs_tabletext.specs.Conditions.{Wording}
 use Rattle.hs_schema.specs.Catalogue.{Text}
 use Rattle.hs_turns.specs.Dialect.{Dialect}
 

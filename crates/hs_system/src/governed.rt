@@ -1,6 +1,6 @@
 // Database systems that runs may be over.
 ghost use Rattle.std.specs.Prelude.{Bool};
-ghost use Rattle.hs_database.specs.Database.{Database};
+ghost use Rattle.hs_turns.specs.Database.{Database};
 ghost use Rattle.hs_schema.specs.Catalogue.{Things};
 ghost use Rattle.hs_system.specs.Governed.{IsGoverned};
 ghost use Rattle.hs_system.specs.System.{System};

@@ -2,7 +2,7 @@
 //! `Ahead.antt` and `Remade.antt` in `proofs/`.
 ghost use Rattle.std.specs.Prelude.{◌≡◌, ◌≤◌, ℕ, ◌++◌, List, length, None};
 ghost use Rattle.hs_entries.specs.declared.item.Item.{Item};
-ghost use Rattle.hs_replay.specs.Redone.{State};
+ghost use Rattle.hs_logged.specs.Redone.{State};
 ghost use Rattle.hs_run.specs.Running.{IsTrue};
 ghost use Rattle.hs_seams.specs.Stores.{IsWorld};
 ghost use Rattle.hs_system.specs.Openings.{IsSound, Make, ended_at, first, future_at, texts_of, world_of};

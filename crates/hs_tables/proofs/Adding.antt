@@ -10,7 +10,7 @@ use Rattle.hs_outlines.specs.Outline.{keys_of, keys_written}
 use Rattle.hs_plan.specs.declared.definition.Rule.{Rule}
 use Rattle.hs_plan.specs.declared.fault.PlacedFault.{PlacedFault}
 use Rattle.hs_schema.specs.Catalogue.{Things}
-use Rattle.hs_surroundings.specs.Finding.{Least}
+use Rattle.hs_meaning.specs.Finding.{Least}
 use Rattle.hs_typed.specs.Faults.{noted, with_fault}
 use Rattle.hs_tables.specs.Additions.{Base, every_column, named, sight_by, whole}
 use Rattle.hs_tables.specs.Site.{sight_of}

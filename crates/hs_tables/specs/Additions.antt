@@ -17,7 +17,7 @@ use Rattle.hs_plan.specs.declared.definition.Constraint.{Constraint}
 use Rattle.hs_plan.specs.declared.definition.Rule.{Rule}
 use Rattle.hs_plan.specs.declared.fault.Which.TheVariants as which
 use Rattle.hs_schema.specs.Catalogue.{Things}
-use Rattle.hs_surroundings.specs.Finding.{Least}
+use Rattle.hs_meaning.specs.Finding.{Least}
 use Rattle.hs_typed.specs.Faults.{noted}
 use Rattle.hs_tables.specs.declared.additions.Before.{Before}
 use Rattle.hs_tables.specs.Rules.{rules}

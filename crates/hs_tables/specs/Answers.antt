@@ -16,7 +16,7 @@ use Rattle.hs_plan.specs.declared.definition.Definition.{Definition}
 use Rattle.hs_plan.specs.declared.fault.BindFault.TheVariants as fault
 use Rattle.hs_schema.specs.Catalogue.{Things, table_named}
 use Rattle.hs_schema.specs.declared.table.Table.{Table}
-use Rattle.hs_surroundings.specs.Finding.{Least}
+use Rattle.hs_meaning.specs.Finding.{Least}
 use Rattle.hs_typed.specs.Faults.{noted}
 use Rattle.hs_tables.specs.Definitions.{by_column, by_constraint, column_added, constraint_added, table_created}
 

@@ -7,11 +7,11 @@ use Rattle.hs_valuetext.proofs.Bits.{not_both}
 use Rattle.hs_columntext.specs.Columns.{column_text, IsLastColumn}
 use Rattle.hs_columnlaws.proofs.CleanColumns.{clean_column}
 use Rattle.hs_keytext.specs.Owners.{Owner}
-use Rattle.hs_ruletext.specs.Conditions.{Wording}
+use Rattle.hs_tabletext.specs.Conditions.{Wording}
 use Rattle.hs_parttext.specs.Lines.{IsFirstLine}
 use Rattle.hs_parttext.proofs.FeedLemmas.{one_line, lines_end}
-use Rattle.hs_linetext.specs.Constraints.{constraint_text, front_text, constraint_lines, AreConstraintLines}
-use Rattle.hs_linetext.proofs.CleanRules.{feedless}
+use Rattle.hs_tabletext.specs.Constraints.{constraint_text, front_text, constraint_lines, AreConstraintLines}
+use Rattle.hs_tabletext.proofs.CleanRules.{feedless}
 use Rattle.hs_tabletext.specs.declared.definition.AddedColumn.{AddedColumn}
 use Rattle.hs_tabletext.specs.Columns.{is_own, with_column, IsBehindColumn, IsAddedText}
 

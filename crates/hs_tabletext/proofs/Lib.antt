@@ -1,3 +1,7 @@
 pub mod Naming
 pub mod TableLemmas
 pub mod ColumnLemmas
+pub mod CleanRules
+pub mod ConstraintLemmas
+pub mod PartLemmas
+pub mod RuleLemmas

@@ -11,8 +11,8 @@ use Rattle.hs_valuetext.proofs.NumberLemmas.{same_front}
 use Rattle.hs_valuetext.proofs.TextLemmas.{Alone}
 use Rattle.hs_nametext.specs.Names.{name_text, goes_on, IsNameAt}
 use Rattle.hs_columntext.specs.Columns.{columns_text, AreColumnsAt}
-use Rattle.hs_ruletext.specs.Conditions.{Wording}
-use Rattle.hs_linetext.specs.Constraints.{constraint_lines, IsConstraint, AreConstraintLines}
+use Rattle.hs_tabletext.specs.Conditions.{Wording}
+use Rattle.hs_tabletext.specs.Constraints.{constraint_lines, IsConstraint, AreConstraintLines}
 use Rattle.hs_parttext.specs.Named.{IsNamed}
 use Rattle.hs_parttext.proofs.Known.{apart}
 use Rattle.hs_parttext.proofs.NamedLemmas.{Ends, named_nameless}

@@ -7,9 +7,9 @@ use Rattle.hs_plan.specs.declared.definition.Rule.{Rule}
 use Rattle.hs_plan.specs.declared.definition.Rule.TheVariants as rule
 use Rattle.hs_columntext.specs.Columns.{column_text, IsColumn}
 use Rattle.hs_keytext.specs.Owners.{Owner}
-use Rattle.hs_ruletext.specs.Conditions.{Wording}
+use Rattle.hs_tabletext.specs.Conditions.{Wording}
 use Rattle.hs_parttext.specs.Lines.{IsLine}
-use Rattle.hs_linetext.specs.Constraints.{constraint_lines, IsConstraint}
+use Rattle.hs_tabletext.specs.Constraints.{constraint_lines, IsConstraint}
 use Rattle.hs_tabletext.specs.declared.definition.AddedColumn.{AddedColumn}
 
 -- ---- constraints of the column itself

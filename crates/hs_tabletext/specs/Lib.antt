@@ -1,2 +1,5 @@
 pub mod Tables
 pub mod Columns
+pub mod Constraints
+pub mod Conditions
+pub mod Rules

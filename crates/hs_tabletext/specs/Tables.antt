@@ -9,10 +9,10 @@ use Rattle.hs_schema.specs.Catalogue.{Things}
 use Rattle.hs_nametext.specs.Names.{name_text}
 use Rattle.hs_columntext.specs.Columns.{columns_text, IsColumn}
 use Rattle.hs_keytext.specs.Owners.{Owner}
-use Rattle.hs_ruletext.specs.Conditions.{Wording}
+use Rattle.hs_tabletext.specs.Conditions.{Wording}
 use Rattle.hs_parttext.specs.Lines.{IsLine}
 use Rattle.hs_parttext.specs.Named.{IsName}
-use Rattle.hs_linetext.specs.Constraints.{constraint_lines, IsConstraint}
+use Rattle.hs_tabletext.specs.Constraints.{constraint_lines, IsConstraint}
 use Rattle.hs_tabletext.specs.declared.definition.NewTable.{NewTable}
 
 -- ---- before the table's name

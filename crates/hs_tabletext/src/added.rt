@@ -6,12 +6,11 @@ ghost use Rattle.hs_tabletext.specs.Columns.{IsBehindColumn, IsAddedText};
 
 use crate::belonging::are_own;
 use crate::definition::AddedColumn;
+use crate::{Conditions, read_constraint_lines};
 use hs_columntext::read_last_column;
 use hs_keytext::Owner;
-use hs_linetext::read_constraint_lines;
 use hs_parttext::first_line;
 use hs_plan::{Column, Constraint};
-use hs_ruletext::Conditions;
 use sqlite_items::Items;
 use std::alloc::{AllocError, Global};
 

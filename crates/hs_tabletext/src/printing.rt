@@ -2,19 +2,18 @@
 ghost use Rattle.std.specs.Prelude.{◌≡◌, ◌++◌, ◌∷◌, [], OnOk};
 ghost use Rattle.hs_keytext.specs.Owners.{seen};
 ghost use Rattle.hs_columntext.specs.Columns as columns;
-ghost use Rattle.hs_linetext.specs.Constraints.{ArePrintable};
+ghost use Rattle.hs_tabletext.specs.Constraints.{ArePrintable};
 ghost use Rattle.hs_tabletext.specs.Columns.{with_column, added_text};
 ghost use Rattle.hs_tabletext.specs.Tables.{table_text, body_text};
 
 use crate::added::with_column;
 use crate::storage::print_create;
+use crate::{Conditions, print_constraint_lines};
 use hs_base::NoMemory;
 use hs_columntext::{print_column, print_columns};
 use hs_keytext::Owner;
-use hs_linetext::print_constraint_lines;
 use hs_nametext::print_name;
 use hs_plan::{Column, Constraint, Storage};
-use hs_ruletext::Conditions;
 use hs_values::Chars;
 use std::alloc::Global;
 

@@ -6,12 +6,11 @@ ghost use Rattle.hs_tabletext.specs.Tables.{IsBodyText, IsTableText};
 
 use crate::definition::NewTable;
 use crate::storage::read_create;
+use crate::{Conditions, read_constraint_lines};
 use hs_columntext::read_columns;
 use hs_keytext::Owner;
-use hs_linetext::read_constraint_lines;
 use hs_nametext::read_name;
 use hs_plan::{Column, Constraint};
-use hs_ruletext::Conditions;
 use hs_schema::Catalog;
 use hs_values::Name;
 use hs_valuetext::behind;

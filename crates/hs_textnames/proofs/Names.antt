@@ -6,12 +6,12 @@ use Rattle.std.proofs.lemmas.Bool.{and_from, and_parts, eqb-true}
 use Rattle.hs_base.specs.declared.numbers.SessionNo.{SessionNo}
 use Rattle.hs_committext.specs.Commits.{IsCommitText}
 use Rattle.hs_committext.specs.Lines.{AreLinesOf}
-use Rattle.hs_database.specs.Database.{Database, apply, is_definition, make}
-use Rattle.hs_deftext.specs.Changes.{IsChangeText}
-use Rattle.hs_deftext.specs.Definitions.{IsDefinition}
+use Rattle.hs_turns.specs.Database.{Database, apply, is_definition, make}
+use Rattle.hs_committext.specs.Changes.{IsChangeText}
+use Rattle.hs_committext.specs.Definitions.{IsDefinition}
 use Rattle.hs_entries.specs.Parts.{lacks}
 use Rattle.hs_keytext.specs.Owners.{Owner}
-use Rattle.hs_linetext.specs.Constraints.{IsConstraint}
+use Rattle.hs_tabletext.specs.Constraints.{IsConstraint}
 use Rattle.hs_nametext.specs.Names.{is_name}
 use Rattle.hs_plainsql.specs.Naming.{are_named, are_single, is_single, names_single}
 use Rattle.hs_plainsql.proofs.Catalogues.{after_named}
@@ -20,7 +20,7 @@ use Rattle.hs_plan.specs.declared.change.Change.TheVariants as c
 use Rattle.hs_plan.specs.declared.definition.Constraint.{Constraint}
 use Rattle.hs_plan.specs.declared.definition.Definition.{Definition}
 use Rattle.hs_plan.specs.declared.definition.Definition.TheVariants as d
-use Rattle.hs_ruletext.specs.Conditions.{Wording}
+use Rattle.hs_tabletext.specs.Conditions.{Wording}
 use Rattle.hs_schema.specs.Catalogue.{Things}
 use Rattle.hs_valuetext.specs.Texts.{has_control, is_control}
 use Rattle.std.specs.Prelude.{Option}

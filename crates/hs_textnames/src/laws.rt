@@ -2,14 +2,14 @@
 ghost use Rattle.std.specs.Prelude.{◌≡◌, ℕ, List, Option, true};
 ghost use Rattle.hs_base.specs.declared.numbers.SessionNo.{SessionNo};
 ghost use Rattle.hs_committext.specs.Commits.{IsCommitText};
-ghost use Rattle.hs_database.specs.Database.{Database, apply};
-ghost use Rattle.hs_deftext.specs.Definitions.{IsDefinition};
+ghost use Rattle.hs_turns.specs.Database.{Database, apply};
+ghost use Rattle.hs_committext.specs.Definitions.{IsDefinition};
 ghost use Rattle.hs_plainsql.specs.Naming.{are_named, names_single};
 ghost use Rattle.hs_plan.specs.declared.change.Change.{Change};
 ghost use Rattle.hs_plan.specs.declared.definition.Definition.{Definition};
 ghost use Rattle.hs_schema.specs.Catalogue.{Things};
 
-use hs_deftext::Conditions;
+use hs_committext::Conditions;
 
 /// A definition that has a text names its constraints without line feeds.
 pub fn definitions_with_a_text_name_no_line_feed<C: Conditions>(conditions: &C)

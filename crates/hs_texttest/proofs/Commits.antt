@@ -13,13 +13,13 @@ use Rattle.hs_plan.specs.declared.change.Change.TheVariants as c
 use Rattle.hs_plan.specs.declared.definition.Column.{Column}
 use Rattle.hs_plan.specs.declared.expression.Expr.{Expr}
 use Rattle.hs_schema.specs.Catalogue.{Things}
-use Rattle.hs_database.specs.Database as database
+use Rattle.hs_turns.specs.Database as database
 use Rattle.hs_log.specs.CommitText as log
 use Rattle.hs_log.specs.CommitText.{is_session, IsSession}
 use Rattle.hs_nametext.specs.Names.{name_text}
 use Rattle.hs_rowtext.specs.Rows.{row_text}
-use Rattle.hs_ruletext.specs.Conditions.{Wording}
-use Rattle.hs_deftext.specs.Changes.{change_text, table_name, IsChangeText}
+use Rattle.hs_tabletext.specs.Conditions.{Wording}
+use Rattle.hs_committext.specs.Changes.{change_text, table_name, IsChangeText}
 use Rattle.hs_committext.specs.Commits.{changes_text, number_of, AreCommitted}
 use Rattle.hs_committext.specs.Lines.{AreLinesOf}
 use Rattle.hs_logged.specs.Entered as logged

@@ -14,9 +14,9 @@ use Rattle.hs_schema.specs.Catalogue.{Things, table_named}
 use Rattle.hs_columntext.specs.Columns.{IsColumn}
 use Rattle.hs_keytext.specs.Owners.{Owner}
 use Rattle.hs_parttext.specs.Named.{IsName}
-use Rattle.hs_ruletext.specs.Conditions.{Wording}
-use Rattle.hs_ruletext.specs.Rules.{IsRule}
-use Rattle.hs_linetext.specs.Constraints.{IsConstraint}
+use Rattle.hs_tabletext.specs.Conditions.{Wording}
+use Rattle.hs_tabletext.specs.Rules.{IsRule}
+use Rattle.hs_tabletext.specs.Constraints.{IsConstraint}
 use Rattle.hs_tabletext.specs.declared.definition.NewTable.{NewTable}
 use Rattle.hs_tabletext.specs.Columns.{is_own, with_column, IsAdded}
 use Rattle.hs_tabletext.specs.Tables.{owner_of, IsNewTable}
@@ -25,7 +25,7 @@ use Rattle.hs_shorttext.specs.Tables.{columns_of, IsTable}
 use Rattle.hs_alterationtext.specs.declared.alteration.Alteration.{Alteration}
 use Rattle.hs_alterationtext.specs.declared.alteration.Alteration.TheVariants as a
 use Rattle.hs_alterationtext.specs.Alterations.{adding, is_not_null, owner_in, IsAlter, IsAlteration, IsLone}
-use Rattle.hs_deftext.specs.Definitions.{new_index, new_table, IsDefinition}
+use Rattle.hs_committext.specs.Definitions.{new_index, new_table, IsDefinition}
 use Rattle.hs_texttest.specs.Columns.{are_columns, is_column, is_named}
 use Rattle.hs_texttest.specs.Definitions.{ConditionTest, is_added, is_constraint, is_definition, is_lone, is_new_table, is_rule, is_table}
 use Rattle.hs_texttest.proofs.Columns.{column_told, columns_told, foreign_key_told, name_told, place_told}

@@ -18,7 +18,7 @@ use Rattle.hs_valuetext.specs.Values.{IsSpelled}
 use Rattle.hs_nametext.specs.Names.{name_text}
 use Rattle.hs_rowtext.specs.Lines.{row_line, IsChangeOf, IsRowLine, IsRowNo}
 use Rattle.hs_rowtext.specs.Rows.{types_of, IsRowOf}
-use Rattle.hs_deftext.specs.Changes.{table_name}
+use Rattle.hs_committext.specs.Changes.{table_name}
 use Rattle.hs_texttest.specs.Columns.{is_named, is_spelled}
 use Rattle.hs_texttest.specs.Commits.{is_change_in, is_change_of, is_row_change, is_row_number, is_row_of}
 use Rattle.hs_texttest.proofs.Columns.{name_told, spelled_told}

@@ -13,11 +13,11 @@ use Rattle.hs_schema.specs.declared.table.Table.{Table}
 use Rattle.hs_schema.specs.Catalogue.{Things, table_named}
 use Rattle.hs_values.specs.declared.value.Value.{Value}
 use Rattle.hs_values.specs.SqlType.{row_fits}
-use Rattle.hs_database.specs.Database as database
+use Rattle.hs_turns.specs.Database as database
 use Rattle.hs_log.specs.CommitText.{is_session}
 use Rattle.hs_rowtext.specs.Rows.{types_of}
-use Rattle.hs_ruletext.specs.Conditions.{Wording}
-use Rattle.hs_deftext.specs.Changes.{table_name}
+use Rattle.hs_tabletext.specs.Conditions.{Wording}
+use Rattle.hs_committext.specs.Changes.{table_name}
 use Rattle.hs_committext.specs.Commits.{changes_text}
 use Rattle.hs_texttest.specs.Columns.{is_named, is_spelled}
 use Rattle.hs_texttest.specs.Definitions.{ConditionTest, is_definition}

@@ -10,8 +10,8 @@ use Rattle.hs_claims.specs.Compatible.{fits}
 use Rattle.hs_claims.specs.Held.{held_by}
 use Rattle.hs_claims.specs.Held.{blocks as blocks_by}
 use Rattle.hs_claims.specs.Session.{IsSession}
-use Rattle.hs_histories.specs.Histories.{Open, held, others}
-use Rattle.hs_histories.proofs.Lists.{each_map, each_filter, each_all, each_none, some_of}
+use Rattle.hs_turns.specs.Histories.{Open, held, others}
+use Rattle.hs_turns.proofs.Lists.{each_map, each_filter, each_all, each_none, some_of}
 use Rattle.hs_turns.specs.Attempts.{blocks}
 use Rattle.hs_turns.specs.Waiting.{ascending}
 use Rattle.hs_turns.proofs.Opened.{has, found_is, has_others, is_of, none_of}

@@ -19,7 +19,7 @@ use Rattle.hs_sessions.specs.declared.session.Session.{Session}
 use Rattle.hs_sessions.specs.Modes.{joined}
 use Rattle.hs_sessions.specs.Settings.{controlled, ended}
 use Rattle.hs_waits.specs.Waits.{waits_of}
-use Rattle.hs_histories.specs.Histories.{Commit, Open, put_open}
+use Rattle.hs_turns.specs.Histories.{Commit, Open, put_open}
 use Rattle.hs_turns.specs.Machine.{Settings, settings_in}
 use Rattle.hs_turns.specs.Waiting.{Waits, answered, ascending, freed, waits_for}
 use Rattle.std.specs.Prelude.{filter}

@@ -2,8 +2,8 @@
 use Rattle.std.proofs.Common.{◌≡◌, ℕ, ◌==◌, ◌&&◌, ◌||◌, not, Bool, true, false, cond, List, [], ◌∷◌, refl, sym, ap, ◌∙◌, subst, eqb-true}
 use Rattle.std.specs.Prelude.{Some, find, if◌then◌else◌}
 use Rattle.std.specs.List.{list_all, list_any}
-use Rattle.hs_histories.specs.Each.{Each}
-use Rattle.hs_histories.specs.Histories.{Open, others, own, put_open}
+use Rattle.hs_turns.specs.Each.{Each}
+use Rattle.hs_turns.specs.Histories.{Open, others, own, put_open}
 use Rattle.hs_turns.proofs.Opened.{has}
 
 -- a session without a transaction begins a new one

@@ -14,9 +14,9 @@ use Rattle.hs_plan.specs.declared.change.Change.{Change}
 use Rattle.hs_sessions.specs.declared.session.Transaction.{Transaction}
 use Rattle.hs_sessions.specs.Modes.{level_of, no_modes, with_modes}
 use Rattle.hs_sessions.specs.Settings.{ended}
-use Rattle.hs_histories.specs.Each.{Each}
-use Rattle.hs_histories.specs.Histories.{Commit, Open, held, others, own, put_open}
-use Rattle.hs_histories.proofs.Lists.{each_map, each_put}
+use Rattle.hs_turns.specs.Each.{Each}
+use Rattle.hs_turns.specs.Histories.{Commit, Open, held, others, own, put_open}
+use Rattle.hs_turns.proofs.Lists.{each_map, each_put}
 use Rattle.hs_turns.specs.Dialect.{untouched}
 use Rattle.hs_turns.specs.Machine.{Settings, settings_in}
 use Rattle.hs_turns.specs.Waiting.{Waits, freed}

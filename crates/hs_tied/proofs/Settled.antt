@@ -12,7 +12,7 @@ use Rattle.hs_claims.specs.declared.model.Level.{Level}
 use Rattle.hs_claims.specs.declared.model.Level.TheVariants.{Rc, Ser, Snap}
 use Rattle.hs_claims.specs.Compatible.{fits, fits_one}
 use Rattle.hs_claims.specs.Wants.{catalog_claim, keeps_of}
-use Rattle.hs_histories.specs.Histories.{held}
+use Rattle.hs_turns.specs.Histories.{held}
 use Rattle.hs_turns.specs.Dialect.{untouched}
 use Rattle.hs_turns.specs.Machine.{Settings}
 use Rattle.hs_holding.specs.Held.{IsNumber}

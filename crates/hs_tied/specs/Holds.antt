@@ -6,8 +6,8 @@ use Rattle.hs_claims.specs.Compatible.{fits}
 use Rattle.hs_claims.specs.Held.{held_by}
 use Rattle.hs_claims.specs.Session.{IsSession}
 use Rattle.hs_sessions.specs.declared.session.Session.{Session}
-use Rattle.hs_histories.specs.Each.{Each}
-use Rattle.hs_histories.specs.Histories.{Open, held}
+use Rattle.hs_turns.specs.Each.{Each}
+use Rattle.hs_turns.specs.Histories.{Open, held}
 use Rattle.hs_turns.specs.Machine.{settings_in}
 use Rattle.hs_turns.proofs.Opened.{has}
 use Rattle.hs_holding.specs.declared.holding.Holding.{Holding}

@@ -3,8 +3,8 @@ use Rattle.std.specs.Prelude.{ℕ, ◌-◌, ◌==◌, Bool, List, [], ◌∷◌,
 use Rattle.hs_ast.specs.declared.session.Isolation.TheVariants.{ReadCommitted}
 use Rattle.hs_claims.specs.declared.model.ControlKind.{ControlKind}
 use Rattle.hs_sessions.specs.Modes.{level_of, no_modes, with_modes}
-use Rattle.hs_histories.specs.Transactions.{nothing}
-use Rattle.hs_histories.specs.Histories.{Commit, Open, others, own, put_open}
+use Rattle.hs_turns.specs.Transactions.{nothing}
+use Rattle.hs_turns.specs.Histories.{Commit, Open, others, own, put_open}
 use Rattle.hs_turns.specs.Machine.{Settings, new_settings}
 use Rattle.hs_turns.specs.Waiting.{Waits, freed}
 

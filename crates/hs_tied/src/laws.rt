@@ -10,7 +10,7 @@ ghost use Rattle.hs_claims.specs.Blockers.{has};
 ghost use Rattle.hs_claims.specs.Held.{blocks as claims_block};
 ghost use Rattle.hs_claims.specs.Session.{IsSession};
 ghost use Rattle.hs_waits.specs.Waits.{IsFirstLeading};
-ghost use Rattle.hs_histories.specs.Histories.{others};
+ghost use Rattle.hs_turns.specs.Histories.{others};
 ghost use Rattle.hs_turns.specs.Attempts.{blocks};
 ghost use Rattle.hs_turns.specs.Waiting.{ascending, first_leading};
 ghost use Rattle.hs_holding.specs.declared.holding.Holding.{Holding};

@@ -1,6 +1,6 @@
 -- What the calls of an engine come to.
 use Rattle.std.proofs.Common.{◌≡◌, ℕ, Bool, true, false, List, [], ◌++◌, length, sym, ap, ◌∙◌, subst}
-use Rattle.hs_histories.specs.Histories.{Commit}
+use Rattle.hs_turns.specs.Histories.{Commit}
 use Rattle.hs_holding.specs.Held.{IsNumber}
 use Rattle.hs_lines.specs.Names.{IsKnown}
 use Rattle.hs_lines.specs.declared.words.Words.{Words as Said}

@@ -1,6 +1,6 @@
 -- A statement on settings or savepoints, done.
 use Rattle.std.proofs.Common.{◌≡◌, ℕ, ◌==◌, Bool, true, false, List, length, take, refl, sym, ap, ap₂, ◌∙◌, subst, eqb-true}
-use Rattle.hs_histories.specs.Histories.{Commit}
+use Rattle.hs_turns.specs.Histories.{Commit}
 use Rattle.hs_holding.specs.declared.holding.Holding.{Holding}
 use Rattle.hs_holding.specs.Held.{seat_of}
 use Rattle.hs_lines.specs.declared.words.Words.{Words as Said}

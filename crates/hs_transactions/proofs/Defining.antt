@@ -1,11 +1,11 @@
 -- What a definition finds.
 use Rattle.std.proofs.Common.{◌≡◌, ℕ, ◌+◌, ◌<◌, ◌^◌, Bool, true, false, List, [], ◌∷◌, length, sym, ap, ◌∙◌, subst, arith, codes}
 use Rattle.std.specs.Prelude.{Some, Ok}
-use Rattle.hs_database.specs.Database.{has_room}
-use Rattle.hs_database.specs.Definitions.{control_after}
+use Rattle.hs_turns.specs.Database.{has_room}
+use Rattle.hs_turns.specs.Definitions.{control_after}
 use Rattle.hs_claims.specs.declared.model.ControlKind.TheVariants.{Locks}
-use Rattle.hs_histories.specs.Events.{definition_commit, fresh}
-use Rattle.hs_histories.specs.Histories.{Commit, Open, others, own}
+use Rattle.hs_turns.specs.Events.{definition_commit, fresh}
+use Rattle.hs_turns.specs.Histories.{Commit, Open, others, own}
 use Rattle.hs_holding.specs.declared.holding.Holding.{Holding}
 use Rattle.hs_holding.specs.Held.{seat_of}
 use Rattle.hs_lines.specs.declared.words.Words.{Words as Said}

@@ -6,7 +6,7 @@ use Rattle.hs_ast.specs.declared.session.Modes.{Modes as NewModes}
 use Rattle.hs_base.specs.declared.numbers.CommitNo.{CommitNo}
 use Rattle.hs_claims.specs.Held.{held_by}
 use Rattle.hs_claims.specs.Session.{IsSession}
-use Rattle.hs_histories.specs.Histories.{Commit, Open, commit_of}
+use Rattle.hs_turns.specs.Histories.{Commit, Open, commit_of}
 use Rattle.hs_holding.specs.declared.seat.Own.{Own}
 use Rattle.hs_holding.specs.declared.seat.Seat.{Seat}
 use Rattle.hs_holding.specs.Held.{IsNumber, graph, is_open_at, seat_of}

@@ -8,7 +8,7 @@ use Rattle.hs_claims.specs.declared.model.ControlKind.TheVariants.{Locks}
 use Rattle.hs_claims.specs.Blockers.{has}
 use Rattle.hs_claims.specs.Wants.{wants_of}
 use Rattle.hs_claims.specs.Session.{IsSession}
-use Rattle.hs_histories.specs.Histories.{Commit, Open, newer, no_conflict}
+use Rattle.hs_turns.specs.Histories.{Commit, Open, newer, no_conflict}
 use Rattle.hs_holding.specs.declared.seat.Own.{Own}
 use Rattle.hs_holding.specs.Held.{seat_of}
 use Rattle.hs_lines.specs.Names.{name_in}

@@ -12,9 +12,9 @@ use Rattle.hs_claims.specs.Compatible.{fits}
 use Rattle.hs_claims.specs.Held.{held_by}
 use Rattle.hs_claims.specs.Session.{IsSession}
 use Rattle.hs_claims.specs.Wants.{keeps_of, wants_of}
-use Rattle.hs_database.specs.Database.{Database}
-use Rattle.hs_histories.specs.Histories.{Commit, Open, held, is_free, others, put_open}
-use Rattle.hs_histories.specs.Language.{Outcome}
+use Rattle.hs_turns.specs.Database.{Database}
+use Rattle.hs_turns.specs.Histories.{Commit, Open, held, is_free, others, put_open}
+use Rattle.hs_turns.specs.Language.{Outcome}
 use Rattle.hs_holding.specs.declared.holding.Holding.{Holding}
 use Rattle.hs_holding.specs.declared.seat.Own.{Own}
 use Rattle.hs_holding.specs.declared.seat.Seat.{Seat}

@@ -2,8 +2,8 @@
 use Rattle.std.proofs.Common.{◌≡◌, ℕ, ◌==◌, Bool, true, false, List, [], ◌∷◌, length, refl, ◌∙◌, subst}
 use Rattle.std.specs.Prelude.{Option, None, Some, is_some, find, if◌then◌else◌}
 use Rattle.hs_claims.specs.Session.{IsSession}
-use Rattle.hs_histories.specs.Each.{Each}
-use Rattle.hs_histories.specs.Histories.{Open, others, own, put_open}
+use Rattle.hs_turns.specs.Each.{Each}
+use Rattle.hs_turns.specs.Histories.{Open, others, own, put_open}
 use Rattle.hs_holding.specs.declared.holding.Holding.{Holding}
 use Rattle.hs_holding.specs.Held.{is_open_at, seat_of}
 use Rattle.hs_tied.specs.Holds.{Holds, IsKept, IsOwn}

@@ -3,9 +3,9 @@ use Rattle.std.proofs.Common.{◌≡◌, ℕ, ◌≤◌, ◌==◌, not, Bool, tr
 use Rattle.std.specs.Prelude.{◌-◌, slice_index_or, if◌then◌else◌}
 use Rattle.std.proofs.lemmas.Bool.{and_parts, not-true}
 use Rattle.hs_claims.specs.Held.{held_by}
-use Rattle.hs_database.specs.Database.{Database}
-use Rattle.hs_histories.specs.Events.{Event, begun, reached, step}
-use Rattle.hs_histories.specs.Histories.{Commit, others}
+use Rattle.hs_turns.specs.Database.{Database}
+use Rattle.hs_turns.specs.Events.{Event, begun, reached, step}
+use Rattle.hs_turns.specs.Histories.{Commit, others}
 use Rattle.hs_holding.specs.declared.holding.Holding.{Holding}
 use Rattle.hs_holding.specs.declared.seat.Seat.{Seat}
 use Rattle.hs_holding.specs.Held.{IsNumber, graph, seat_of}

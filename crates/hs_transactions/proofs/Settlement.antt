@@ -1,8 +1,8 @@
 -- What the commit of a transaction comes to.
 use Rattle.std.proofs.Common.{◌≡◌, ℕ, ◌+◌, ◌≤◌, Bool, true, false, List, [], ◌∷◌, ◌++◌, length, refl, sym, ap, ap₂, ◌∙◌, subst, arith}
-use Rattle.hs_database.specs.Database.{has_room}
+use Rattle.hs_turns.specs.Database.{has_room}
 use Rattle.hs_base.specs.declared.numbers.SessionNo.{SessionNo}
-use Rattle.hs_histories.specs.Histories.{Commit, Open, commit_of}
+use Rattle.hs_turns.specs.Histories.{Commit, Open, commit_of}
 use Rattle.hs_holding.specs.declared.holding.Holding.{Holding}
 use Rattle.hs_holding.specs.Held.{seat_of}
 use Rattle.hs_plan.specs.declared.change.Change.{Change}

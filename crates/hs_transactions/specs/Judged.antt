@@ -6,7 +6,7 @@ use Rattle.hs_claims.specs.Blockers.{has}
 use Rattle.hs_claims.specs.Held.{blocks}
 use Rattle.hs_claims.specs.Session.{IsSession}
 use Rattle.hs_claims.specs.Wants.{wants_of}
-use Rattle.hs_histories.specs.Histories.{Commit, is_snap}
+use Rattle.hs_turns.specs.Histories.{Commit, is_snap}
 use Rattle.hs_holding.specs.declared.holding.Holding.{Holding}
 use Rattle.hs_holding.specs.declared.seat.Own.{Own}
 use Rattle.hs_plan.specs.declared.change.Change.{Change}

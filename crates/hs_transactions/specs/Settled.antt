@@ -1,7 +1,7 @@
 -- What the commit of a session's transaction comes to.
 use Rattle.std.specs.Prelude.{◌≡◌, ℕ, ◌+◌, List, [], ◌∷◌, ◌++◌, length}
-use Rattle.hs_database.specs.Database.{has_room}
-use Rattle.hs_histories.specs.Histories.{Commit, Open, commit_of}
+use Rattle.hs_turns.specs.Database.{has_room}
+use Rattle.hs_turns.specs.Histories.{Commit, Open, commit_of}
 use Rattle.hs_plan.specs.declared.change.Change.{Change}
 use Rattle.hs_seams.specs.Stores.{present}
 use Rattle.hs_seams.specs.World.{World}

@@ -1,7 +1,7 @@
 -- What an engine stands for.
 use Rattle.std.specs.Prelude.{◌≡◌, ℕ, true, List, [], length}
-use Rattle.hs_histories.specs.Events.{begun}
-use Rattle.hs_histories.specs.Histories.{Commit}
+use Rattle.hs_turns.specs.Events.{begun}
+use Rattle.hs_turns.specs.Histories.{Commit}
 use Rattle.hs_plan.specs.declared.change.Change.{Change}
 use Rattle.hs_seams.specs.Stores.{IsWorld}
 use Rattle.hs_seams.specs.World.{World}

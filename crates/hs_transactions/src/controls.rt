@@ -1,6 +1,6 @@
 // Statements on a session's settings and savepoints.
 ghost use Rattle.std.specs.Prelude.{◌≡◌, ◌==◌, ◌++◌, ◌&&◌, [], List, length, take, codes, not, true, false, IfOk, OnOk};
-ghost use Rattle.hs_histories.specs.Histories.{Commit};
+ghost use Rattle.hs_turns.specs.Histories.{Commit};
 ghost use Rattle.hs_holding.specs.Held.{IsSeat, seat_of};
 ghost use Rattle.hs_plan.specs.declared.change.Change.{Change};
 ghost use Rattle.hs_seams.specs.World.{World};

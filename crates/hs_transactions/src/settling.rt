@@ -1,6 +1,6 @@
 // Commits of transactions.
 ghost use Rattle.std.specs.Prelude.{◌≡◌, IfOk, OnOk};
-ghost use Rattle.hs_histories.specs.Histories.{Open};
+ghost use Rattle.hs_turns.specs.Histories.{Open};
 ghost use Rattle.hs_seams.specs.World.{World};
 ghost use Rattle.hs_tied.specs.Kept.{Kept};
 ghost use Rattle.hs_moves.specs.Fits.{IsHere};

@@ -9,9 +9,9 @@ use Rattle.hs_entries.specs.declared.item.Item.{Item}
 use Rattle.hs_entries.specs.declared.item.Item.TheVariants as item
 use Rattle.hs_schema.specs.Catalogue.{Text}
 use Rattle.hs_sessions.specs.Book.{number_from}
-use Rattle.hs_database.specs.Database.{Database}
-use Rattle.hs_histories.specs.Each.{Each}
-use Rattle.hs_histories.proofs.Lists.{each_map, each_both, each_append}
+use Rattle.hs_turns.specs.Database.{Database}
+use Rattle.hs_turns.specs.Each.{Each}
+use Rattle.hs_turns.proofs.Lists.{each_map, each_both, each_append}
 use Rattle.hs_turns.specs.Dialect.{Dialect}
 use Rattle.hs_turns.specs.Waiting.{Entry, Waits, answered, is_among, is_waiting, leads, ascending}
 use Rattle.hs_turns.specs.Laws.{is_entry, is_item, owed}

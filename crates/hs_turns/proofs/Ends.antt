@@ -8,7 +8,7 @@ use Rattle.hs_entries.specs.declared.item.Item.{Item}
 use Rattle.hs_entries.specs.declared.item.Item.TheVariants as item
 use Rattle.hs_schema.specs.Catalogue.{Text}
 use Rattle.hs_sessions.specs.Book.{number_from}
-use Rattle.hs_database.specs.Database.{Database}
+use Rattle.hs_turns.specs.Database.{Database}
 use Rattle.hs_turns.specs.Dialect.{Dialect}
 use Rattle.hs_turns.specs.Waiting.{Entry, is_waiting, ascending}
 use Rattle.hs_turns.specs.Machine.{Machine, is_open, with_session}

@@ -16,13 +16,13 @@ use Rattle.hs_sessions.specs.declared.control.ControlReply.{ControlReply}
 use Rattle.hs_sessions.specs.declared.control.ControlReply.TheVariants as reply
 use Rattle.hs_sessions.specs.Book.{number_from}
 use Rattle.hs_sessions.specs.Settings.{controlled}
-use Rattle.hs_database.specs.Database.{Database, has_room, view}
-use Rattle.hs_histories.specs.Language.{Language}
-use Rattle.hs_histories.specs.Transactions.{session_in}
-use Rattle.hs_histories.specs.Transactions.Statement.{Data, OnSession}
-use Rattle.hs_histories.specs.Histories.{Open, History, base, commit_of, is_free, newer, no_conflict, now, others}
-use Rattle.hs_histories.specs.Events.{Event, commit_by as by_changes, commit, define, define_by, definition_commit, defines, finish, fresh, goes_on, judged, said, stays_open}
-use Rattle.hs_histories.specs.Events.{Act as act}
+use Rattle.hs_turns.specs.Database.{Database, has_room, view}
+use Rattle.hs_turns.specs.Language.{Language}
+use Rattle.hs_turns.specs.Transactions.{session_in}
+use Rattle.hs_turns.specs.Transactions.Statement.{Data, OnSession}
+use Rattle.hs_turns.specs.Histories.{Open, History, base, commit_of, is_free, newer, no_conflict, now, others}
+use Rattle.hs_turns.specs.Events.{Event, commit_by as by_changes, commit, define, define_by, definition_commit, defines, finish, fresh, goes_on, judged, said, stays_open}
+use Rattle.hs_turns.specs.Events.{Act as act}
 use Rattle.hs_turns.specs.Dialect.{Dialect, Request, accepted, language_of, open_transaction}
 use Rattle.hs_turns.specs.Dialect.{Request as request}
 use Rattle.hs_turns.specs.Lines.{Words, RowOf, Replies, First, WaitsFor, Line, OfItem, told}

@@ -21,13 +21,13 @@ use Rattle.hs_plan.specs.declared.definition.Definition.{Definition}
 use Rattle.hs_changes.specs.Changes.{count_all_inserted}
 use Rattle.hs_sessions.specs.declared.control.Control.{Control}
 use Rattle.hs_schema.specs.Catalogue.{Text}
-use Rattle.hs_database.specs.Database.{Database, has_room, view}
-use Rattle.hs_histories.specs.Language.{Language}
-use Rattle.hs_histories.specs.Transactions.{Statement}
-use Rattle.hs_histories.specs.Transactions.Statement.{Data, OnSession}
-use Rattle.hs_histories.specs.Histories.{Open, Commit, History, base, held, is_free, newer, no_conflict, now, others, own, put_open}
-use Rattle.hs_histories.specs.Events.{Act, Event, fresh, finish, stays_open, commit_by, commit, said, judged, says, define_by, define, defines, by_act, step}
-use Rattle.hs_histories.specs.Events.{Act as act}
+use Rattle.hs_turns.specs.Database.{Database, has_room, view}
+use Rattle.hs_turns.specs.Language.{Language}
+use Rattle.hs_turns.specs.Transactions.{Statement}
+use Rattle.hs_turns.specs.Transactions.Statement.{Data, OnSession}
+use Rattle.hs_turns.specs.Histories.{Open, Commit, History, base, held, is_free, newer, no_conflict, now, others, own, put_open}
+use Rattle.hs_turns.specs.Events.{Act, Event, fresh, finish, stays_open, commit_by, commit, said, judged, says, define_by, define, defines, by_act, step}
+use Rattle.hs_turns.specs.Events.{Act as act}
 
 abbrev pub is_of : ℕ → Open → Bool
 is_of s o = o.session == s

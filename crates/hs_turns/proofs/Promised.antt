@@ -1,15 +1,15 @@
 -- The laws of histories, over the history of a run.
 use Rattle.std.proofs.Common.{◌≡◌, ℕ, true, List, sym, subst}
 use Rattle.hs_entries.specs.declared.item.Item.{Item}
-use Rattle.hs_database.specs.Database.{Database}
-use Rattle.hs_histories.specs.Each.{Each}
-use Rattle.hs_histories.specs.Events.{reached}
-use Rattle.hs_histories.specs.Histories.{History, state}
-use Rattle.hs_histories.specs.Language.{Laws, Stands}
-use Rattle.hs_histories.specs.Laws.{AreMade, EachEnded, IsCommitted, IsFirst, IsInOrder, IsSerial, IsSnapshot}
-use Rattle.hs_histories.proofs.Ended.{Right, in_order}
-use Rattle.hs_histories.proofs.Lists.{each_map, each_both}
-use Rattle.hs_histories.proofs.Whole.{Whole, whole}
+use Rattle.hs_turns.specs.Database.{Database}
+use Rattle.hs_turns.specs.Each.{Each}
+use Rattle.hs_turns.specs.Events.{reached}
+use Rattle.hs_turns.specs.Histories.{History, state}
+use Rattle.hs_turns.specs.Language.{Laws, Stands}
+use Rattle.hs_turns.specs.Promises.{AreMade, EachEnded, IsCommitted, IsFirst, IsInOrder, IsSerial, IsSnapshot}
+use Rattle.hs_turns.proofs.Ended.{Right, in_order}
+use Rattle.hs_turns.proofs.Lists.{each_map, each_both}
+use Rattle.hs_turns.proofs.Whole.{Whole, whole}
 use Rattle.hs_turns.specs.Dialect.{Dialect, language_of}
 use Rattle.hs_turns.specs.Laws.{history_after}
 use Rattle.hs_turns.proofs.Reached.{run_r}

@@ -5,8 +5,8 @@ use Rattle.hs_entries.specs.declared.item.Item.{Item}
 use Rattle.hs_entries.specs.declared.item.Item.TheVariants as item
 use Rattle.hs_schema.specs.Catalogue.{Text}
 use Rattle.hs_sessions.specs.Book.{number_from}
-use Rattle.hs_database.specs.Database.{Database}
-use Rattle.hs_histories.specs.Events.{reached}
+use Rattle.hs_turns.specs.Database.{Database}
+use Rattle.hs_turns.specs.Events.{reached}
 use Rattle.hs_turns.specs.Dialect.{Dialect}
 use Rattle.hs_turns.specs.Waiting.{Entry, is_waiting}
 use Rattle.hs_turns.specs.Machine.{Machine, start, is_open, with_session}

@@ -21,13 +21,13 @@ use Rattle.hs_sessions.specs.declared.control.ControlReply.TheVariants as reply
 use Rattle.hs_sessions.specs.declared.session.Session.{Session}
 use Rattle.hs_sessions.specs.Modes.{joined}
 use Rattle.hs_sessions.specs.Settings.{controlled}
-use Rattle.hs_database.specs.Database.{Database, view, has_room}
-use Rattle.hs_histories.specs.Transactions.{Statement, Reply}
-use Rattle.hs_histories.specs.Transactions.Reply.{Told, Controlled}
-use Rattle.hs_histories.specs.Transactions.Statement.{Data, OnSession}
-use Rattle.hs_histories.specs.Histories.{Open, Commit, base, commit_of, held, is_free, newer, no_conflict, now, others, own}
-use Rattle.hs_histories.specs.Events.{Event, definition_commit, fresh, said}
-use Rattle.hs_histories.specs.Events.{Act as act}
+use Rattle.hs_turns.specs.Database.{Database, view, has_room}
+use Rattle.hs_turns.specs.Transactions.{Statement, Reply}
+use Rattle.hs_turns.specs.Transactions.Reply.{Told, Controlled}
+use Rattle.hs_turns.specs.Transactions.Statement.{Data, OnSession}
+use Rattle.hs_turns.specs.Histories.{Open, Commit, base, commit_of, held, is_free, newer, no_conflict, now, others, own}
+use Rattle.hs_turns.specs.Events.{Event, definition_commit, fresh, said}
+use Rattle.hs_turns.specs.Events.{Act as act}
 use Rattle.hs_turns.specs.Dialect.{Dialect, Request, language_of, open_transaction, refused_words}
 use Rattle.hs_turns.specs.Dialect.{Request as request}
 use Rattle.hs_turns.specs.Lines.{Words, Replies, First, WaitsFor, told}

@@ -6,9 +6,9 @@ use Rattle.hs_plan.specs.declared.change.Change.{Change}
 use Rattle.hs_plan.specs.declared.definition.Definition.{Definition}
 use Rattle.hs_schema.specs.Catalogue.{Text}
 use Rattle.hs_sessions.specs.declared.control.Control.{Control}
-use Rattle.hs_database.specs.Database.{Database}
-use Rattle.hs_histories.specs.Language.{Language, Outcome}
-use Rattle.hs_histories.specs.Histories.{Commit}
+use Rattle.hs_turns.specs.Database.{Database}
+use Rattle.hs_turns.specs.Language.{Language, Outcome}
+use Rattle.hs_turns.specs.Histories.{Commit}
 
 -- What an entry asks for, by its text alone: nothing, as it is no statement, for this reason; a query, a change of
 -- rows or LOCK TABLE; a change of the catalogue or of the database's settings; or what a session does to its own

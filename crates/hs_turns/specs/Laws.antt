@@ -3,9 +3,9 @@ use Rattle.std.specs.Prelude.{◌≡◌, ℕ, ◌+◌, ◌==◌, Bool, false, Li
 use Rattle.std.specs.List.{flat_map}
 use Rattle.hs_entries.specs.declared.item.Item.{Item}
 use Rattle.hs_entries.specs.declared.item.Item.TheVariants as item
-use Rattle.hs_database.specs.Database.{Database}
-use Rattle.hs_histories.specs.Events.{Event, reached}
-use Rattle.hs_histories.specs.Histories.{History}
+use Rattle.hs_turns.specs.Database.{Database}
+use Rattle.hs_turns.specs.Events.{Event, reached}
+use Rattle.hs_turns.specs.Histories.{History}
 use Rattle.hs_turns.specs.Dialect.{Dialect, language_of}
 use Rattle.hs_turns.specs.Lines.{Line, Words, OpenedAt, ClosedAt, OfItem, EndOf, RowOf, Replies, First, WaitsFor}
 use Rattle.hs_turns.specs.Machine.{Machine, start}

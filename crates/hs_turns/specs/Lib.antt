@@ -6,3 +6,14 @@ pub mod Attempts
 pub mod Turns
 pub mod Laws
 pub mod Small
+pub mod Each
+pub mod Language
+pub mod Transactions
+pub mod Histories
+pub mod Events
+pub mod Promises
+pub mod Alone
+pub mod Inserting
+pub mod Database
+pub mod Definitions
+pub mod Numbers

@@ -9,9 +9,9 @@ use Rattle.hs_sessions.specs.declared.modes.Characteristics.{Characteristics}
 use Rattle.hs_sessions.specs.declared.session.Session.{Session}
 use Rattle.hs_sessions.specs.Modes.{no_modes, with_modes}
 use Rattle.hs_sessions.specs.Settings.{fresh as fresh_session, begun as begun_session}
-use Rattle.hs_database.specs.Database.{Database}
-use Rattle.hs_histories.specs.Histories.{Open, History}
-use Rattle.hs_histories.specs.Events.{Act, Event, begun, step}
+use Rattle.hs_turns.specs.Database.{Database}
+use Rattle.hs_turns.specs.Histories.{Open, History}
+use Rattle.hs_turns.specs.Events.{Act, Event, begun, step}
 use Rattle.hs_turns.specs.Dialect.{Dialect, language_of}
 use Rattle.hs_turns.specs.Waiting.{Entry, Waits, nobody, freed}
 

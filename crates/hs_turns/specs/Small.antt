@@ -12,9 +12,9 @@ use Rattle.hs_plan.specs.declared.change.Change.TheVariants as change
 use Rattle.hs_plan.specs.declared.definition.Definition.TheVariants as definition
 use Rattle.hs_schema.specs.Catalogue.{Text}
 use Rattle.hs_sessions.specs.Modes.{no_modes}
-use Rattle.hs_database.specs.Database.{Database}
-use Rattle.hs_histories.specs.Language.{Outcome}
-use Rattle.hs_histories.specs.Inserting.{writing}
+use Rattle.hs_turns.specs.Database.{Database}
+use Rattle.hs_turns.specs.Language.{Outcome}
+use Rattle.hs_turns.specs.Inserting.{writing}
 use Rattle.hs_turns.specs.Dialect.{Dialect, Request}
 use Rattle.hs_turns.specs.Dialect.{Request as request}
 use Rattle.hs_turns.specs.Lines.{line_text}

@@ -5,7 +5,7 @@ use Rattle.hs_entries.specs.declared.item.Item.{Item}
 use Rattle.hs_entries.specs.declared.item.Item.TheVariants as item
 use Rattle.hs_schema.specs.Catalogue.{Text}
 use Rattle.hs_sessions.specs.Book.{number_from}
-use Rattle.hs_database.specs.Database.{Database}
+use Rattle.hs_turns.specs.Database.{Database}
 use Rattle.hs_turns.specs.Dialect.{Dialect, refused_words}
 use Rattle.hs_turns.specs.Lines.{Line, Words, OfItem, EndOf, Replies, no_session}
 use Rattle.hs_turns.specs.Waiting.{Entry, answered, is_waiting, ascending}

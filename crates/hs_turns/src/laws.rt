@@ -3,11 +3,11 @@
 //! and `Ends.antt` in `proofs/`.
 ghost use Rattle.std.specs.Prelude.{◌≡◌, ◌<◌, ◌+◌, ℕ, true, false, List, [], ◌∷◌, length, Some, count_by, codes};
 ghost use Rattle.hs_claims.specs.declared.model.ControlKind.TheVariants.{Locks, Mvcc};
-ghost use Rattle.hs_database.specs.Database.{Database};
+ghost use Rattle.hs_turns.specs.Database.{Database};
 ghost use Rattle.hs_entries.specs.declared.item.Item.{Item};
-ghost use Rattle.hs_histories.specs.Histories.{state};
-ghost use Rattle.hs_histories.specs.Language.{Laws, Stands};
-ghost use Rattle.hs_histories.specs.Laws.{AreMade, EachEnded, IsCommitted, IsFirst, IsInOrder, IsSerial, IsSnapshot};
+ghost use Rattle.hs_turns.specs.Histories.{state};
+ghost use Rattle.hs_turns.specs.Language.{Laws, Stands};
+ghost use Rattle.hs_turns.specs.Promises.{AreMade, EachEnded, IsCommitted, IsFirst, IsInOrder, IsSerial, IsSnapshot};
 ghost use Rattle.hs_turns.specs.Dialect.{Dialect, language_of};
 ghost use Rattle.hs_turns.specs.Laws.{IsHistory, IsOver, commits_told, history_after, is_item, owed};
 ghost use Rattle.hs_turns.specs.Lines.{replies_among};

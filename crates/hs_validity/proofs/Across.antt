@@ -2,7 +2,7 @@
 use Rattle.std.proofs.Common.{◌≡◌, inl, inr, Bool, true, false, List, [], ◌∷◌}
 use Rattle.std.specs.List.{list_any}
 use Rattle.std.proofs.lemmas.Bool.{or_cases}
-use Rattle.hs_histories.specs.Each.{Each, Across}
+use Rattle.hs_turns.specs.Each.{Each, Across}
 
 some_of : {X : Type 0} (P : X → Type 0) (p : X → Bool) (R : Type 0) → ((x : X) → P x → p x ≡ true → R) → (xs : List X) → Each P xs → list_any p xs ≡ true → R
 some_of P p R f [] h is = absurd (let no : false ≡ true = is in cc)

@@ -22,8 +22,8 @@ use Rattle.hs_changes.proofs.Applied.{settings_of-append}
 use Rattle.hs_changes.proofs.Set.{get-set_rows, last_values-unset}
 use Rattle.hs_sentences.specs.Violations.{Touched, first_violated}
 use Rattle.hs_footprint.specs.Touched.{keys_at, keys_of, name_of, parents_of, rows_of}
-use Rattle.hs_database.specs.Database.{Database, view, IsNumbered}
-use Rattle.hs_database.specs.Numbers.{IsKnown, NamesKnown}
+use Rattle.hs_turns.specs.Database.{Database, view, IsNumbered}
+use Rattle.hs_turns.specs.Numbers.{IsKnown, NamesKnown}
 use Rattle.hs_language.specs.Described.{described, names_known, tell_key, tell_parent, tell_row, tell_setting}
 use Rattle.hs_language.specs.Validity.{lets_pass}
 use Rattle.hs_validity.proofs.Asked.{meets_all}

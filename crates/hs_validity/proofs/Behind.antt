@@ -5,8 +5,8 @@ use Rattle.hs_plan.specs.declared.change.Change.{Change}
 use Rattle.hs_plan.specs.declared.plan.Plan.{Plan}
 use Rattle.hs_changes.specs.Changes.{count_all_inserted}
 use Rattle.hs_schema.specs.Catalogue.{Text}
-use Rattle.hs_database.specs.Database.{Database, view}
-use Rattle.hs_histories.specs.Language.{IsFine, Stands}
+use Rattle.hs_turns.specs.Database.{Database, view}
+use Rattle.hs_turns.specs.Language.{IsFine, Stands}
 use Rattle.hs_turns.specs.Dialect.{Request, language_of, nothing, outcome_of, unless_refused, untouched}
 use Rattle.hs_turns.specs.Dialect.Request.{Faulty, OfData, OfDefinition, Starts, Commits, RollsBack, OnSettings}
 use Rattle.hs_language.specs.Reading.{Reading}

@@ -9,10 +9,10 @@ use Rattle.hs_plan.specs.declared.change.Change.TheVariants as change
 use Rattle.hs_changes.specs.Changes.{after_changes, count_all_inserted, own_row}
 use Rattle.hs_changes.specs.Settings.{Maps, Setting, names, set_row}
 use Rattle.hs_changes.proofs.Set.{get-set_row}
-use Rattle.hs_database.specs.Database.{Database, apply, committed, make, view, IsNumbered}
-use Rattle.hs_database.specs.Numbers.{IsKnown, NamesKnown, final_change, final_row, numbers_from}
-use Rattle.hs_database.proofs.Numbered.{old-final, own-final}
-use Rattle.hs_database.proofs.Renumbered.{numbers-length, seen_is_committed}
+use Rattle.hs_turns.specs.Database.{Database, apply, committed, make, view, IsNumbered}
+use Rattle.hs_turns.specs.Numbers.{IsKnown, NamesKnown, final_change, final_row, numbers_from}
+use Rattle.hs_turns.proofs.NumberedRows.{old-final, own-final}
+use Rattle.hs_turns.proofs.Renumbered.{numbers-length, seen_is_committed}
 
 -- ---- rows that are only there under some numbers
 

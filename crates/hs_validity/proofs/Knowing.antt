@@ -8,8 +8,8 @@ use Rattle.hs_plan.specs.declared.change.Change.TheVariants as change
 use Rattle.hs_rel.proofs.Selecting.{head_or_tail, nothing_in}
 use Rattle.hs_changes.specs.Changes.{count_all_inserted, count_inserted, own_row, settings_of}
 use Rattle.hs_changes.specs.Settings.{Setting}
-use Rattle.hs_database.specs.Database.{is_definition}
-use Rattle.hs_database.specs.Numbers.{IsKnown, KnowsRow, NamesKnown}
+use Rattle.hs_turns.specs.Database.{is_definition}
+use Rattle.hs_turns.specs.Numbers.{IsKnown, KnowsRow, NamesKnown}
 use Rattle.hs_language.specs.Described.{is_known, knows_row, names_known}
 
 -- ---- as tests

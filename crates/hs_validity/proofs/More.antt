@@ -17,9 +17,9 @@ use Rattle.hs_dml.specs.Told.{tentative}
 use Rattle.hs_rel.proofs.Selecting.{head_or_tail, nothing_in}
 use Rattle.hs_schema.specs.declared.thing.Thing.{Thing}
 use Rattle.hs_sentences.specs.declared.violation.Violation.{Violation}
-use Rattle.hs_database.specs.Database.{Database, view, IsNumbered}
-use Rattle.hs_histories.specs.Each.{Each}
-use Rattle.hs_histories.specs.Language.{IsWithin, Outcome}
+use Rattle.hs_turns.specs.Database.{Database, view, IsNumbered}
+use Rattle.hs_turns.specs.Each.{Each}
+use Rattle.hs_turns.specs.Language.{IsWithin, Outcome}
 use Rattle.hs_turns.specs.Dialect.{untouched}
 use Rattle.hs_language.specs.Described.{described, names_known, tell_setting}
 use Rattle.hs_language.specs.Outcomes.{answered, around, changed, kept_unless_long, kept_unless_violated, of_changes, of_plan, of_tables, own_count, violated_by}

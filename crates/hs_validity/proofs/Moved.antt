@@ -13,11 +13,11 @@ use Rattle.hs_changes.specs.Changes.{count_all_inserted, settings_of}
 use Rattle.hs_changes.specs.Settings.{Maps, Setting, is_set, last_values, names, set_rows}
 use Rattle.hs_changes.proofs.Set.{get-set_rows, last_values-unset}
 use Rattle.hs_schema.specs.Catalogue.{Things}
-use Rattle.hs_database.specs.Database.{Database, committed, has_room, view, IsNumbered}
-use Rattle.hs_database.specs.Numbers.{IsKnown, NamesKnown}
-use Rattle.hs_database.proofs.Applied.{committed-count}
-use Rattle.hs_database.proofs.Bounded.{committed_numbered}
-use Rattle.hs_histories.specs.Each.{Across}
+use Rattle.hs_turns.specs.Database.{Database, committed, has_room, view, IsNumbered}
+use Rattle.hs_turns.specs.Numbers.{IsKnown, NamesKnown}
+use Rattle.hs_turns.proofs.Applied.{committed-count}
+use Rattle.hs_turns.proofs.Bounded.{committed_numbered}
+use Rattle.hs_turns.specs.Each.{Across}
 use Rattle.hs_language.specs.Described.{described, names_known, tell_of, tell_row, tell_setting}
 use Rattle.hs_language.specs.Sql.{is_valid}
 use Rattle.hs_language.specs.Validity.{lets_pass, types_in}

@@ -12,11 +12,11 @@ use Rattle.hs_values.specs.declared.value.Value.{Value}
 use Rattle.hs_values.specs.SqlType.{row_fits}
 use Rattle.hs_schema.specs.Catalogue.{Things}
 use Rattle.hs_schema.specs.declared.thing.Thing.{Thing}
-use Rattle.hs_database.specs.Database.{Database, committed, has_room, view, IsNumbered}
-use Rattle.hs_database.specs.Numbers.{NamesKnown, final_row, numbers_from}
-use Rattle.hs_database.proofs.Applied.{committed-count}
-use Rattle.hs_database.proofs.Bounded.{committed_numbered}
-use Rattle.hs_database.proofs.Tables.{Frame, frame_stays}
+use Rattle.hs_turns.specs.Database.{Database, committed, has_room, view, IsNumbered}
+use Rattle.hs_turns.specs.Numbers.{NamesKnown, final_row, numbers_from}
+use Rattle.hs_turns.proofs.Applied.{committed-count}
+use Rattle.hs_turns.proofs.Bounded.{committed_numbered}
+use Rattle.hs_turns.proofs.Tables.{Frame, frame_stays}
 use Rattle.hs_language.specs.Described.{described, names_known, tell_setting}
 use Rattle.hs_language.specs.Sql.{are_numbered, is_valid}
 use Rattle.hs_language.specs.Validity.{lets_pass, types_in}

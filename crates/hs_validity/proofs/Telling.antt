@@ -14,7 +14,7 @@ use Rattle.hs_changes.specs.Settings.{Maps, Setting, is_set, names}
 use Rattle.hs_schema.specs.Catalogue.{Things}
 use Rattle.hs_sentences.proofs.Looking.{same_tests}
 use Rattle.hs_footprint.specs.Touched.{key_name, keys_at}
-use Rattle.hs_histories.specs.Each.{Across}
+use Rattle.hs_turns.specs.Each.{Across}
 use Rattle.hs_language.specs.Described.{parents_named_by, table_of, tell_key, tell_of, tell_parent, tell_row, tell_setting, tell_table}
 use Rattle.hs_validity.proofs.Across.{not_across}
 use Rattle.hs_validity.proofs.Equal.{same_through, same_turned}

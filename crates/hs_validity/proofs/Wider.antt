@@ -13,7 +13,7 @@ use Rattle.hs_changes.specs.Changes.{settings_of}
 use Rattle.hs_changes.specs.Settings.{set_rows}
 use Rattle.hs_schema.specs.Catalogue.{Things}
 use Rattle.hs_footprint.specs.Touched.{keys_at}
-use Rattle.hs_database.specs.Database.{Database}
+use Rattle.hs_turns.specs.Database.{Database}
 use Rattle.hs_language.specs.Described.{described, names_known, tell_key, tell_parent, tell_row, tell_setting, tell_table}
 use Rattle.hs_validity.proofs.Lists.{all_weaker}
 use Rattle.hs_validity.proofs.Placed.{named_of, number_at}

@@ -1,9 +1,9 @@
 -- Statements whose changes are within their footprints.
 use Rattle.std.specs.Prelude.{◌≡◌, ℕ, Bool, true}
 use Rattle.hs_schema.specs.Catalogue.{Text}
-use Rattle.hs_database.specs.Database.{Database}
-use Rattle.hs_histories.specs.Each.{Each}
-use Rattle.hs_histories.specs.Language.{IsWithin, Outcome}
+use Rattle.hs_turns.specs.Database.{Database}
+use Rattle.hs_turns.specs.Each.{Each}
+use Rattle.hs_turns.specs.Language.{IsWithin, Outcome}
 use Rattle.hs_turns.specs.Dialect.{language_of}
 use Rattle.hs_language.specs.Reading.{Reading}
 use Rattle.hs_language.specs.Sql.{is_valid, sql}

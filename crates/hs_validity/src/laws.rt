@@ -1,14 +1,14 @@
 //! Laws of valid databases and of what footprints tell, each on a function that does nothing. With those of hs_language_laws
-//! and hs_redefined they are the laws that SQL meets as the language of transactions. Proofs of other crates cite them from
+//! and hs_language they are the laws that SQL meets as the language of transactions. Proofs of other crates cite them from
 //! `Wider.antt`, `Numbered.antt`, `Moved.antt` and `Behind.antt` in `proofs/`.
 ghost use Rattle.std.specs.Prelude.{◌≡◌, ◌↔◌, ℕ, Bool, true, List, [], ◌∷◌, ◌++◌};
 ghost use Rattle.hs_changes.specs.Changes.{count_all_inserted};
 ghost use Rattle.hs_changes.specs.Settings.{Maps};
 ghost use Rattle.hs_claims.specs.Footprint.{IsClear};
 ghost use Rattle.hs_claims.specs.declared.footprint.Footprint.{Footprint};
-ghost use Rattle.hs_database.specs.Database.{Database, committed, has_room, view};
-ghost use Rattle.hs_histories.specs.Each.{Across};
-ghost use Rattle.hs_histories.specs.Language.{IsFine, Stands};
+ghost use Rattle.hs_turns.specs.Database.{Database, committed, has_room, view};
+ghost use Rattle.hs_turns.specs.Each.{Across};
+ghost use Rattle.hs_turns.specs.Language.{IsFine, Stands};
 ghost use Rattle.hs_language.specs.Described.{described};
 ghost use Rattle.hs_language.specs.Reading.{Reading};
 ghost use Rattle.hs_language.specs.Sql.{sql};

@@ -6,7 +6,7 @@ use Rattle.std.specs.List.{filter_map}
 use Rattle.hs_values.specs.declared.fault.EvalFault.{EvalFault}
 use Rattle.hs_values.specs.declared.value.Value.{Value}
 use Rattle.hs_values.specs.Outcome.{Gives}
-use Rattle.hs_function.specs.Numbers.{Outcome}
+use Rattle.hs_expression.specs.Numbers.{Outcome}
 use Rattle.hs_expression.specs.Outcomes.{value_in, fault_in, all_or_least}
 use Rattle.hs_expression.specs.Expression.{value_in_group}
 use Rattle.hs_expression.specs.Surroundings.{Surroundings, Valued}

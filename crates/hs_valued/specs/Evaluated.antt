@@ -4,7 +4,7 @@ use Rattle.hs_values.specs.declared.fault.EvalFault.{EvalFault}
 use Rattle.hs_values.specs.declared.fault.EvalFault.TheVariants.{NoMemory}
 use Rattle.hs_values.specs.declared.value.Value.{Value}
 use Rattle.hs_values.specs.Order.{seen}
-use Rattle.hs_function.specs.Numbers.{Outcome}
+use Rattle.hs_expression.specs.Numbers.{Outcome}
 use Rattle.hs_valued.specs.declared.evaluated.Evaluated.{Evaluated}
 use Rattle.hs_valued.specs.declared.evaluated.Evaluated.TheVariants.{Lent, Made}
 

@@ -1,7 +1,7 @@
 -- Values and faults of the rows of a group, one row after another.
 use Rattle.std.specs.Prelude.{List, [], ◌∷◌, ◌++◌, fold, None, Ok, Err}
 use Rattle.hs_values.specs.declared.value.Value.{Value}
-use Rattle.hs_function.specs.Numbers.{Outcome}
+use Rattle.hs_expression.specs.Numbers.{Outcome}
 use Rattle.hs_rel.specs.Selection.{lesser_of}
 use Rattle.hs_valued.specs.declared.gathered.Gathered.{Gathered}
 

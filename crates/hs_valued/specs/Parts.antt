@@ -6,8 +6,8 @@ use Rattle.hs_values.specs.Outcome.{◌>>=◌}
 use Rattle.hs_plan.specs.declared.expression.CaseArm.{CaseArm}
 use Rattle.hs_plan.specs.declared.expression.Expr.{Expr}
 use Rattle.hs_plan.specs.declared.expression.ListItem.{ListItem}
-use Rattle.hs_function.specs.Logic.{is_true}
-use Rattle.hs_function.specs.Numbers.{Outcome}
+use Rattle.hs_expression.specs.Logic.{is_true}
+use Rattle.hs_expression.specs.Numbers.{Outcome}
 use Rattle.hs_expression.specs.Expression.{value_of, arm_of, item_of, arm_at, listed_at, valued_at, value_in_group}
 use Rattle.hs_expression.specs.Forms.{chosen, first_known, found_in}
 use Rattle.hs_expression.specs.Outcomes.{all_or_least}

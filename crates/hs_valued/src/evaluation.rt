@@ -14,11 +14,10 @@ ghost use Rattle.hs_valued.specs.Parts.{found_by, chosen_by, known_by, in_group_
 use crate::evaluated::Evaluated;
 use crate::gathered::Gathered;
 use crate::parts::{is_decided, is_false, reading_in};
-use hs_aggregate::{aggregate_value, count_value};
-use hs_expression::{Around, Place, RowRef};
-use hs_function::{
-    between_value, binary_value, disjunction, equal_test, given_at, greatest_test, is_null,
-    is_true, least_test, negated_if, read_value, readable, ternary_value, unary_value,
+use hs_expression::{
+    Around, Place, RowRef, aggregate_value, between_value, binary_value, count_value, disjunction,
+    equal_test, given_at, greatest_test, is_null, is_true, least_test, negated_if, read_value,
+    readable, ternary_value, unary_value,
 };
 use hs_plan::{Binary, CaseArm, Expr, ListItem, Reading, Ternary};
 use hs_values::{EvalFault, Row, Value, ValueRef};

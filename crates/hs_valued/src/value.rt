@@ -5,8 +5,7 @@ ghost use Rattle.hs_expression.specs.Surroundings.{surroundings_of};
 ghost use Rattle.hs_valued.specs.Parts.{holds};
 
 use crate::evaluation::evaluate;
-use hs_expression::Place;
-use hs_function::is_true;
+use hs_expression::{Place, is_true};
 use hs_plan::Expr;
 use hs_values::{EvalFault, Value};
 

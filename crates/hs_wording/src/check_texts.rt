@@ -5,7 +5,7 @@ ghost use Rattle.hs_logged.specs.Writable.{IsPlainWording};
 
 use hs_base::NoMemory;
 use hs_plan::{Column, Expr};
-use hs_ruletext::Conditions;
+use hs_tabletext::Conditions;
 use std::alloc::Global;
 
 /// What writes and reads conditions of CHECK that a log can have.

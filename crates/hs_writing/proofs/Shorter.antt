@@ -1,7 +1,7 @@
 -- Columns below which nothing is left.
 use Rattle.std.proofs.Common.{◌≡◌, List, [], ◌∷◌, refl}
 use Rattle.hs_ast.specs.declared.change.NewValue.{NewValue as WrittenValue}
-use Rattle.hs_meaning.specs.declared.column.PlacedColumn.{PlacedColumn}
+use Rattle.hs_meaning.specs.declared.placed.PlacedColumn.{PlacedColumn}
 use Rattle.hs_schema.specs.Catalogue.{Things}
 use Rattle.hs_scope.specs.declared.from_table.FromTable.{FromTable}
 use Rattle.hs_writing.specs.Targets.{Types}

@@ -8,7 +8,7 @@ use Rattle.hs_ast.specs.declared.change.NewValue.{NewValue as WrittenValue}
 use Rattle.hs_ast.specs.declared.change.NewValue.TheVariants as written
 use Rattle.hs_ast.specs.declared.expression.Expression.{Expression}
 use Rattle.hs_ast.specs.declared.query.Query.{Query}
-use Rattle.hs_meaning.specs.declared.column.PlacedColumn.{PlacedColumn}
+use Rattle.hs_meaning.specs.declared.placed.PlacedColumn.{PlacedColumn}
 use Rattle.hs_meaning.specs.Layers.{QueryMeaning, means}
 use Rattle.hs_meaning.specs.Parts.{Meaning, all, meant}
 use Rattle.hs_meaning.specs.Queries.{uneven}

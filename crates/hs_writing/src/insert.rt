@@ -1,6 +1,6 @@
 // INSERT.
 ghost use Rattle.std.specs.Prelude.{◌≡◌};
-ghost use Rattle.hs_surroundings.specs.Finding.{Finds};
+ghost use Rattle.hs_meaning.specs.Finding.{Finds};
 ghost use Rattle.hs_writing.specs.Answers.{Answers};
 ghost use Rattle.hs_writing.specs.Statements as spec;
 

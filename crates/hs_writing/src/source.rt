@@ -1,7 +1,7 @@
 // The rows that an INSERT puts.
 ghost use Rattle.std.specs.Prelude.{◌≡◌};
 ghost use Rattle.hs_meaning.specs.Statements.{query_meaning};
-ghost use Rattle.hs_surroundings.specs.Finding.{Finds};
+ghost use Rattle.hs_meaning.specs.Finding.{Finds};
 ghost use Rattle.hs_typed.specs.Faults.{noted};
 ghost use Rattle.hs_writing.specs.Values as spec;
 
@@ -11,11 +11,10 @@ use hs_ast::{InsertSource as WrittenSource, NewValue as WrittenValue, Query};
 use hs_base::NoMemory;
 use hs_binding::Binder;
 use hs_columns::{BoundQuery, note_uneven, with_part};
-use hs_meaning::PlacedColumn;
+use hs_meaning::{PlacedColumn, note_types};
 use hs_plan::{InsertSource, Kind, NewValue, is_assignable};
 use hs_schema::Catalog;
 use hs_scope::Scope;
-use hs_surroundings::note_types;
 use hs_typed::Faults;
 use hs_values::SqlType;
 use sqlite_items::Items;

@@ -1,7 +1,7 @@
 // Values of VALUES and of SET.
 ghost use Rattle.std.specs.Prelude.{◌≡◌, OnOk};
 ghost use Rattle.hs_meaning.specs.Parts.{all};
-ghost use Rattle.hs_surroundings.specs.Finding.{Finds};
+ghost use Rattle.hs_meaning.specs.Finding.{Finds};
 ghost use Rattle.hs_typed.specs.Faults.{noted};
 ghost use Rattle.hs_writing.specs.Values as spec;
 

@@ -9,7 +9,7 @@ use Rattle.hs_meaning.specs.Parts.{Meaning}
 use Rattle.hs_meaning.specs.Selects.{grouped_columns, items_in}
 use Rattle.hs_meaning.specs.Surroundings.{Surroundings, in_aggregate, over_groups, over_rows}
 use Rattle.hs_meaning.specs.Trees.{item_of, layer_of, part_of, row_of}
-use Rattle.hs_surroundings.specs.Around.{seen}
+use Rattle.hs_meaning.specs.Around.{seen}
 use Rattle.hs_typed.specs.declared.typed.Typed.{Typed}
 use Rattle.hs_typed.specs.Faults.{noted}
 use Rattle.hs_resolve.proofs.Concluded.{aggregate_found}

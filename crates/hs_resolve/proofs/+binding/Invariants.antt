@@ -8,7 +8,7 @@ use Rattle.hs_meaning.specs.Parts.{known, with_part}
 use Rattle.hs_meaning.specs.Queries.{key_over, keys_over, row_in, rows_below}
 use Rattle.hs_meaning.specs.Selects.{items_in}
 use Rattle.hs_meaning.specs.Trees.{arm_of, element_of, item_of, join_of, key_of, part_of, row_of}
-use Rattle.hs_surroundings.specs.Around.{seen}
+use Rattle.hs_meaning.specs.Around.{seen}
 use Rattle.hs_typed.specs.Faults.{noted}
 use Rattle.hs_resolve.proofs.Behind.{parts_behind}
 use Rattle.hs_resolve.proofs.+binding.Given as goal

@@ -1,5 +1,5 @@
 use Rattle.std.proofs.Common.{◌∙◌}
-use Rattle.hs_redefined.specs.Proper.{is_index_named}
+use Rattle.hs_language.specs.Proper.{is_index_named}
 use Rattle.hs_applicable.proofs.Indexes.{all_named}
 use Rattle.hs_applicable.proofs.proper.are_indexes_named.Goals as goal
 

@@ -1,7 +1,7 @@
 use Rattle.std.proofs.Common.{◌≡◌, ◌+◌, ◌++◌, drop}
 use Rattle.std.specs.List.{enumerate_from}
 use Rattle.hs_meaning.specs.Selects.{stars}
-use Rattle.hs_surroundings.specs.Around.{seen}
+use Rattle.hs_meaning.specs.Around.{seen}
 use Rattle.hs_typed.specs.Faults.{noted}
 use Rattle.hs_clauses.proofs.items.show_columns.Given as goal
 

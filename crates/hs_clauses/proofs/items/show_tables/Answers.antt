@@ -2,7 +2,7 @@ use Rattle.std.proofs.Common.{◌+◌, length, drop, ap, ◌∙◌, ◌++◌}
 use Rattle.std.specs.List.{enumerate_from}
 use Rattle.hs_meaning.specs.Selects.{stars}
 use Rattle.hs_scope.proofs.Seeking.{item}
-use Rattle.hs_surroundings.specs.Around.{seen}
+use Rattle.hs_meaning.specs.Around.{seen}
 use Rattle.hs_typed.specs.Faults.{noted}
 use Rattle.hs_clauses.proofs.Stars.{faults_of, faults_step, shown_of, shown_step}
 use Rattle.hs_clauses.proofs.items.show_tables.Goals as goal

@@ -2,7 +2,7 @@ use Rattle.std.proofs.Common.{◌≡◌, ◌++◌, drop}
 use Rattle.std.specs.List.{enumerate_from}
 use Rattle.hs_meaning.specs.Selects.{stars}
 use Rattle.hs_scope.specs.Names.{every_column}
-use Rattle.hs_surroundings.specs.Around.{seen}
+use Rattle.hs_meaning.specs.Around.{seen}
 use Rattle.hs_typed.specs.Faults.{noted}
 use Rattle.hs_clauses.proofs.items.show_tables.Given as goal
 

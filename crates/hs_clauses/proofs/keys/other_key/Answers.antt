@@ -1,7 +1,7 @@
 use Rattle.std.proofs.Common.{subst}
 use Rattle.hs_plan.specs.declared.query.SortKey.{SortKey}
 use Rattle.hs_meaning.specs.Parts.{Meaning}
-use Rattle.hs_surroundings.specs.Finding.{Finds}
+use Rattle.hs_meaning.specs.Finding.{Finds}
 use Rattle.hs_clauses.proofs.Forms.{sorted_is}
 use Rattle.hs_clauses.proofs.keys.other_key.Goals as goal
 

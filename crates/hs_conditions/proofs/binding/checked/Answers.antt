@@ -5,7 +5,7 @@ use Rattle.hs_meaning.specs.Parts.{Meaning}
 use Rattle.hs_meaning.specs.Statements.{over}
 use Rattle.hs_meaning.specs.Surroundings.{in_check, over_rows}
 use Rattle.hs_meaning.specs.Trees.{part_of}
-use Rattle.hs_surroundings.specs.Around.{seen}
+use Rattle.hs_meaning.specs.Around.{seen}
 use Rattle.hs_typed.specs.declared.typed.Typed.{Typed}
 use Rattle.hs_typed.specs.Faults.{noted}
 use Rattle.hs_conditions.proofs.Checked.{at_is, concluded}

@@ -2,7 +2,7 @@ use Rattle.std.proofs.Common.{sym, subst}
 use Rattle.std.specs.List.{All}
 use Rattle.hs_logged.specs.Entered.{Enters}
 use Rattle.hs_logged.specs.Writable.{IsWritable}
-use Rattle.hs_replay.specs.Made.{Makes}
+use Rattle.hs_logged.specs.Made.{Makes}
 use Rattle.hs_schema.specs.Catalogue.{Things}
 use Rattle.hs_seams.specs.Stores.{present}
 use Rattle.hs_entering.proofs.Taking.{left_by, settled_by}

@@ -1,6 +1,6 @@
 use Rattle.std.proofs.Common.{◌∙◌, sym, subst}
 use Rattle.std.specs.List.{All}
-use Rattle.hs_deftext.specs.Definitions.{IsPrintable}
+use Rattle.hs_committext.specs.Definitions.{IsPrintable}
 use Rattle.hs_logged.specs.Entered.{Decides}
 use Rattle.hs_logged.specs.Writable.{IsWritable}
 use Rattle.hs_plan.specs.declared.change.Change.{Change}

@@ -1,5 +1,5 @@
 use Rattle.std.proofs.Common.{List, [], ◌∷◌, ◌++◌, IfOk, ap, subst, ◌∙◌}
-use Rattle.hs_linetext.specs.Constraints.{ArePrintable}
+use Rattle.hs_tabletext.specs.Constraints.{ArePrintable}
 use Rattle.hs_logged.specs.Entered.{Decides}
 use Rattle.hs_plan.specs.declared.definition.Column.{Column}
 use Rattle.hs_entering.proofs.texts.added_have_texts.Goals as goal

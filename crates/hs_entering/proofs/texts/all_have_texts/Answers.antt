@@ -1,8 +1,8 @@
 use Rattle.std.proofs.Common.{subst}
 use Rattle.std.proofs.lemmas.List.{take_all}
-use Rattle.hs_linetext.specs.Constraints.{ArePrintable}
+use Rattle.hs_tabletext.specs.Constraints.{ArePrintable}
 use Rattle.hs_logged.specs.Entered.{Decides}
-use Rattle.hs_ruletext.specs.Rules.{IsPrintable}
+use Rattle.hs_tabletext.specs.Rules.{IsPrintable}
 use Rattle.hs_entering.proofs.Constraints.{one_more, one_without}
 use Rattle.hs_entering.proofs.texts.all_have_texts.Goals as goal
 

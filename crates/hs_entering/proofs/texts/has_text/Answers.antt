@@ -1,9 +1,9 @@
 use Rattle.std.proofs.Common.{ℕ, List, [], ◌∷◌, ◌++◌, IfOk, sym, subst}
 use Rattle.std.proofs.lemmas.Result.{IfOk-weaker}
 use Rattle.hs_columntext.specs.Columns as defaults
-use Rattle.hs_deftext.specs.Definitions.{IsPrintable}
+use Rattle.hs_committext.specs.Definitions.{IsPrintable}
 use Rattle.hs_entering.specs.Defaults.{HasLawfulDefaults}
-use Rattle.hs_linetext.specs.Constraints.{ArePrintable}
+use Rattle.hs_tabletext.specs.Constraints.{ArePrintable}
 use Rattle.hs_logged.specs.Entered.{Decides}
 use Rattle.hs_plan.specs.declared.definition.Constraint.{Constraint}
 use Rattle.hs_plan.specs.declared.definition.Definition.{Definition}

@@ -1,5 +1,5 @@
 use Rattle.hs_changes.specs.Changes.{after_changes, count_all_inserted}
-use Rattle.hs_database.specs.Database.{view}
+use Rattle.hs_turns.specs.Database.{view}
 use Rattle.hs_evaluated.proofs.Attempted.{is_after}
 use Rattle.hs_evaluated.proofs.attempting.attempt.Goals as goal
 

@@ -1,7 +1,7 @@
 use Rattle.std.proofs.Common.{◌≡◌, ◌++◌, None, List, [], sym, ap, subst, ◌∙◌}
 use Rattle.std.proofs.lemmas.List.{append-nil}
 use Rattle.hs_changes.specs.Changes.{count_all_inserted}
-use Rattle.hs_database.specs.Database.{view}
+use Rattle.hs_turns.specs.Database.{view}
 use Rattle.hs_language.specs.Outcomes.{violated_by}
 use Rattle.hs_plan.specs.declared.change.Change.{Change}
 use Rattle.hs_references.proofs.Collecting.{empty_from}

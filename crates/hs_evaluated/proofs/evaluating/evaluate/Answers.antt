@@ -1,6 +1,6 @@
 use Rattle.std.proofs.Common.{◌≡◌, ◌++◌, List, [], if◌then◌else◌, sym, ap, subst, ◌∙◌}
 use Rattle.hs_changes.specs.Changes.{count_all_inserted}
-use Rattle.hs_database.specs.Database.{view}
+use Rattle.hs_turns.specs.Database.{view}
 use Rattle.hs_language.specs.Outcomes.{violated_by}
 use Rattle.hs_outcome.specs.Given.{finished}
 use Rattle.hs_plan.specs.declared.change.Change.{Change}

@@ -1,5 +1,5 @@
 use Rattle.std.proofs.Common.{[]}
-use Rattle.hs_database.specs.Definitions.{rows_after}
+use Rattle.hs_turns.specs.Definitions.{rows_after}
 use Rattle.hs_seated.specs.Seated.{IsSeated}
 use Rattle.hs_instance.proofs.Held.{anyway}
 use Rattle.hs_instance.proofs.defining.redefined_rows.Goals as goal

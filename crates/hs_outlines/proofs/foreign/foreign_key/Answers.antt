@@ -1,7 +1,7 @@
 use Rattle.std.proofs.Common.{◌≡◌, false, Some, subst, ap, ◌∙◌}
 use Rattle.std.specs.Str.{bytes_eq}
 use Rattle.hs_schema.specs.Catalogue.{table_named}
-use Rattle.hs_surroundings.specs.Finding.{Finds}
+use Rattle.hs_meaning.specs.Finding.{Finds}
 use Rattle.hs_outlines.specs.ForeignKeys.{reference_to}
 use Rattle.hs_outlines.specs.Outline.{seen}
 use Rattle.hs_outlines.proofs.Parents.{to_table}

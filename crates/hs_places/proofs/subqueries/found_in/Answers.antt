@@ -1,8 +1,8 @@
 use Rattle.std.proofs.Common.{◌≡◌, ◌+◌, true, false, None, Ok, drop, sym, ap, ◌∙◌}
 use Rattle.std.specs.Prelude.{slice_get}
 use Rattle.hs_values.specs.Order.{seen}
-use Rattle.hs_function.specs.Logic.{disjunction, is_true}
-use Rattle.hs_function.specs.Operators.{equal_test}
+use Rattle.hs_expression.specs.Logic.{disjunction, is_true}
+use Rattle.hs_expression.specs.Operators.{equal_test}
 use Rattle.hs_expression.specs.Forms.{found_in, values_of}
 use Rattle.hs_expression.specs.Surroundings.{or_null}
 use Rattle.hs_places.proofs.Answered.{step_found, step_on}

@@ -1,20 +1,22 @@
-use Rattle.std.proofs.Common.{◌≡◌, ℕ, List, false, [], refl, sym, ap, subst, ◌∙◌}
+use Rattle.std.proofs.Common.{◌≡◌, ℕ, List, Err, true, false, [], inl, refl, sym, ap, subst, ◌∙◌}
 use Rattle.hs_host.specs.Files.{Five}
 use Rattle.hs_host.specs.Used.{Told}
 use Rattle.hs_host.proofs.Used.{told_on}
+use Rattle.hs_log.specs.declared.log_fault.LogFault.TheVariants.{Broken}
 use Rattle.hs_log.specs.Log.{is_born}
 use Rattle.hs_log.specs.LogReading.{IsBegun, IsNew}
 use Rattle.hs_run.specs.Stop.{NoFaults}
 use Rattle.hs_run.proofs.Stops.{disk_calm, no_faults_on}
 use Rattle.hs_program.specs.Meaning.{nothing_logged}
-use Rattle.hs_program.specs.Damaged.{IsDamagedAt}
-use Rattle.hs_program.specs.Opening.{IsInvalid, IsOpened, texts_at}
+use Rattle.hs_program.specs.Damaged.{GivesOneAlone, IsDamagedAlone, IsDamagedAt, IsInvalidAlone}
+use Rattle.hs_program.specs.Opening.{HasFirstEpoch, IsInvalid, IsOpened, texts_at}
 use Rattle.hs_program.specs.Run.{Opens}
 use Rattle.hs_program.specs.Stop.{OpenStops, fault_of}
 use Rattle.hs_program.proofs.Alone.{alone_behind, opens_alone}
+use Rattle.hs_program.proofs.Damaged.{header_alone, unborn_alone}
 use Rattle.hs_program.proofs.Openings.{opening_on, opening_found}
 use Rattle.hs_program.proofs.Replayed.{unborn_gives, unborn_texts}
-use Rattle.hs_program.proofs.Stops.{ends_by, ends_for, log_open, ok_for, open_open}
+use Rattle.hs_program.proofs.Stops.{damaged_from, ends_by, ends_for, log_open, ok_for, open_open}
 use Rattle.hs_program.proofs.opening.open_log.Goals as goal
 
 pub returns-in_err-log-clause-moments : goal.returns-in_err-log-clause-moments
@@ -22,6 +24,15 @@ returns-in_err-log-clause-moments g c = λ told quiet. opening_found g.E.Engine.
 
 pub returns-in_err-log-clause-moves : goal.returns-in_err-log-clause-moves
 returns-in_err-log-clause-moves g c = opens_alone c.open.ensures.moves
+
+-- where the header isn't that of runs, that is the one damage
+pub returns-in_err-log-clause-damaged : goal.returns-in_err-log-clause-damaged
+returns-in_err-log-clause-damaged g c = λ told number is.
+    let log = (g.H.Host.files c.args.host.now).log in
+    let why : c.in_err-log.field-0.0 ≡ Broken number = damaged_from c.from_residual.result c.in_err-log.field-0.0 number c.from_residual.ensures.1 is in
+    let header = c.in_err-log.ensures.broken told number (ap Err why) in
+    let none : ¬ (HasFirstEpoch log) = λ first. (let e : true ≡ false = sym first ∙ header.header in absurd (cc)) in
+    (record { born = header.born; damage = inl (header.zero_is, none) }, header_alone g.E.Engine.meaning log header.born number header.zero_is none, c.open.ensures.kept told header.born)
 
 pub returns-in-New-clause-opens : goal.returns-in-New-clause-opens
 returns-in-New-clause-opens g c =
@@ -31,6 +42,7 @@ returns-in-New-clause-opens g c =
       stands = c.new.ensures;
       sound = record { reached = ([], refl); valid = g.met.E.Engine.lawful.starts };
       is = λ told. unborn_gives g.E.Engine.meaning g.met.E.Engine.lawful (g.H.Host.files c.args.host.now).log (opens.0 told);
+      alone = λ told. unborn_alone g.E.Engine.meaning g.met.E.Engine.lawful (g.H.Host.files c.args.host.now).log (opens.0 told);
       host = opens.1.opened;
       epoch = opens.1.epoch;
       log = opens.1.log;
@@ -82,6 +94,7 @@ returns-in-Born-clause-opens g c =
       stands = opens.stands;
       sound = opens.sound;
       is = λ told. subst (λ (f : Five (List ℕ)). IsOpened m f.log opens.opened) (reads.files told) (opens.is (told_on reads.uses told));
+      alone = λ told. subst (λ (f : Five (List ℕ)). GivesOneAlone m f.log) (reads.files told) (opens.alone (told_on reads.uses told));
       host = opens.host;
       epoch = opens.epoch;
       log = opens.log;
@@ -93,15 +106,21 @@ pub returns-in-Born-clause-damaged : goal.returns-in-Born-clause-damaged
 returns-in-Born-clause-damaged g c = λ told number is.
     let begun : IsBegun g.H.Source g.H.Host c.args.host.now c.open.new.host c.in-Born.reader = rw c.in-Born.is at c.in_ok-log.ensures.opens in
     let same = begun.reads.files told in
-    let found = c.read_log.ensures.damaged (told_on begun.reads.uses told) number is in
-    (subst (λ (f : Five (List ℕ)). IsDamagedAt g.E.Engine.meaning f.log number) same found.0, found.1 ∙ same)
+    let found = c.read_log.ensures.damaged (told_on begun.reads.uses told) number is in (
+      subst (λ (f : Five (List ℕ)). IsDamagedAt g.E.Engine.meaning f.log number) same found.0,
+      subst (λ (f : Five (List ℕ)). IsDamagedAlone g.E.Engine.meaning f.log number) same found.1,
+      found.2 ∙ same,
+    )
 
 pub returns-in-Born-clause-invalid : goal.returns-in-Born-clause-invalid
 returns-in-Born-clause-invalid g c = λ told name is.
     let begun : IsBegun g.H.Source g.H.Host c.args.host.now c.open.new.host c.in-Born.reader = rw c.in-Born.is at c.in_ok-log.ensures.opens in
     let same = begun.reads.files told in
-    let found = c.read_log.ensures.invalid (told_on begun.reads.uses told) name is in
-    (subst (λ (f : Five (List ℕ)). IsInvalid g.E.Engine.meaning f.log name) same found.0, found.1 ∙ same)
+    let found = c.read_log.ensures.invalid (told_on begun.reads.uses told) name is in (
+      subst (λ (f : Five (List ℕ)). IsInvalid g.E.Engine.meaning f.log name) same found.0,
+      subst (λ (f : Five (List ℕ)). IsInvalidAlone g.E.Engine.meaning f.log name) same found.1,
+      found.2 ∙ same,
+    )
 
 pub returns-in-Born-clause-kept : goal.returns-in-Born-clause-kept
 returns-in-Born-clause-kept g c = λ told.

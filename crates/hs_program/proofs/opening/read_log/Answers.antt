@@ -7,15 +7,15 @@ use Rattle.hs_log.specs.Log.{is_broken, texts_of}
 use Rattle.hs_run.specs.Stop.{NoFaults}
 use Rattle.hs_run.proofs.Stops.{disk_calm, no_faults_on}
 use Rattle.hs_program.specs.declared.fault.OpenFault.TheVariants.{Damaged, Invalid}
-use Rattle.hs_program.specs.Damaged.{IsDamagedAt, IsFirstDamage}
+use Rattle.hs_program.specs.Damaged.{GivesOneAlone, IsDamagedAt, IsOnlyDamage}
 use Rattle.hs_program.specs.Meaning.{Opened, nothing_logged}
-use Rattle.hs_program.specs.Opening.{AreRedone, IsInvalid, IsMade, IsOpened}
+use Rattle.hs_program.specs.Opening.{AreMadeOnly, IsInvalid, IsMade, IsOpened, texts_at}
 use Rattle.hs_program.specs.Run.{AllMade}
 use Rattle.hs_program.specs.Stop.{OpenStops, fault_of}
 use Rattle.hs_program.proofs.Alone.{alone_behind, changes_alone, reads_alone}
 use Rattle.hs_program.proofs.Openings.{still_opening, settle_opening}
-use Rattle.hs_program.proofs.Damaged.{opened_undamaged, opened_valid}
-use Rattle.hs_program.proofs.Replayed.{born_texts, made_of}
+use Rattle.hs_program.proofs.Damaged.{invalid_alone, texts_alone, valid_alone}
+use Rattle.hs_program.proofs.Replayed.{born_texts, made_of, only_redone}
 use Rattle.hs_program.proofs.Stops.{ends_by, open_open, settle_open}
 use Rattle.hs_program.proofs.opening.read_log.Goals as goal
 use Rattle.hs_program.proofs.opening.read_log.Goals.{After-redo_all, After-settle}
@@ -26,7 +26,18 @@ these : (g : _) (c : After-redo_all g) (told : Told g.H.Source g.H.Host c.args.h
 these g c told opened all =
     let m = g.E.Engine.meaning in
     let begun = c.requires.begun told in
-    made_of m (g.H.Host.files c.args.host.now).log opened (c.requires.reading.born told) begun.0 all.1 (subst (λ ts. AreRedone m (nothing_logged m) ts opened) begun.1 all.0)
+    let texts = texts_of (g.H.Host.files c.args.host.now).log in
+    made_of m (g.H.Host.files c.args.host.now).log opened (c.requires.reading.born told) begun.0 all.1
+    (only_redone m texts (nothing_logged m) opened (subst (λ ts. AreMadeOnly m (nothing_logged m) ts opened) begun.1 all.0))
+
+-- and make nothing else
+only : (g : _) (c : After-redo_all g) (told : Told g.H.Source g.H.Host c.args.host.now) (opened : Opened)
+    → AllMade g.E.Engine.meaning c.args.reader (g.H.Host.files c.args.host.now).log opened
+    → AreMadeOnly g.E.Engine.meaning (nothing_logged g.E.Engine.meaning) (texts_at (g.H.Host.files c.args.host.now).log) opened
+only g c told opened all =
+    let m = g.E.Engine.meaning in
+    let same = (c.requires.begun told).1 ∙ sym (born_texts (g.H.Host.files c.args.host.now).log (c.requires.reading.born told)) in
+    subst (λ ts. AreMadeOnly m (nothing_logged m) ts opened) same all.0
 
 -- what the log gives
 gives : (g : _) (c : After-settle g) → Told g.H.Source g.H.Host c.args.host.now → IsOpened g.E.Engine.meaning (g.H.Host.files c.args.host.now).log c.in-Ok.ensures.redoes.opened
@@ -34,35 +45,39 @@ gives g c told =
     let r = c.in-Ok.ensures.redoes in
     record { made = these g (goal.at.After-settle g c).After-redo_all told r.opened (r.is told); valid = r.sound.valid }
 
--- it is neither damaged nor invalid
+-- it gives nothing else, and is neither damaged nor invalid
+alone : (g : _) (c : After-settle g) → Told g.H.Source g.H.Host c.args.host.now → GivesOneAlone g.E.Engine.meaning (g.H.Host.files c.args.host.now).log
+alone g c told =
+    let r = c.in-Ok.ensures.redoes in
+    let is = gives g c told in
+    valid_alone g.E.Engine.meaning (g.H.Host.files c.args.host.now).log r.opened is.made (only g (goal.at.After-settle g c).After-redo_all told r.opened (r.is told)) is.valid
+
 never : (g : _) (c : After-settle g) → Told g.H.Source g.H.Host c.args.host.now → {A : Type 0}
     → ((number : ℕ) → IsDamagedAt g.E.Engine.meaning (g.H.Host.files c.args.host.now).log number → A) × ((name : List ℕ) → IsInvalid g.E.Engine.meaning (g.H.Host.files c.args.host.now).log name → A)
-never g c told =
-    let m = g.E.Engine.meaning in
-    let law = g.met.E.Engine.lawful in
-    let log = (g.H.Host.files c.args.host.now).log in
-    let opened = c.in-Ok.ensures.redoes.opened in
-    let is = gives g c told in
-    (λ number damaged. absurd (opened_undamaged m law log opened number is damaged), λ name invalid. absurd (opened_valid m law log name opened is invalid))
+never g c told = let one = alone g c told in (λ number damaged. absurd (one.whole number damaged), λ name invalid. absurd (one.valid name invalid))
 
 pub returns-in-Err-clause-damaged : goal.returns-in-Err-clause-damaged
 returns-in-Err-clause-damaged g c = λ told number is.
     let m = g.E.Engine.meaning in
     let log = (g.H.Host.files c.args.host.now).log in
     let why : c.in-Err.fault ≡ Damaged number = cc in
-    let begun = c.requires.begun told in (
-      record {
-        born = c.requires.reading.born told;
-        damage = inr (begun.0, subst (λ ts. IsFirstDamage m ts (is_broken log) number) begun.1 (c.in-Err.ensures.damaged told number (ap Err why)));
-      },
+    let begun = c.requires.begun told in
+    let born = c.requires.reading.born told in
+    let found : IsOnlyDamage m (texts_of log) (is_broken log) number =
+    subst (λ ts. IsOnlyDamage m ts (is_broken log) number) begun.1 (c.in-Err.ensures.damaged told number (ap Err why)) in (
+      record { born = born; damage = inr (begun.0, found.first) },
+      texts_alone m log born begun.0 number found,
       c.redo_all.ensures.reads.files told,
     )
 
 pub returns-in-Err-clause-invalid : goal.returns-in-Err-clause-invalid
 returns-in-Err-clause-invalid g c = λ told name is.
     let why : c.in-Err.fault ≡ Invalid name = cc in
-    let made = c.in-Err.ensures.invalid told name (ap Err why) in (
-      record { opened = made.opened; made = these g (goal.at.returns-in-Err-clause-invalid g c).After-redo_all told made.opened made.made; violates = made.violates },
+    let made = c.in-Err.ensures.invalid told name (ap Err why) in
+    let at = (goal.at.returns-in-Err-clause-invalid g c).After-redo_all in
+    let is = these g at told made.opened made.made in (
+      record { opened = made.opened; made = is; violates = made.violates },
+      invalid_alone g.E.Engine.meaning (g.H.Host.files c.args.host.now).log made.opened is (only g at told made.opened made.made) name made.violates,
       c.redo_all.ensures.reads.files told,
     )
 
@@ -105,6 +120,7 @@ returns-clause-opens g c =
       stands = r.stands;
       sound = r.sound;
       is = gives g (goal.at.returns-clause-opens g c).After-settle;
+      alone = alone g (goal.at.returns-clause-opens g c).After-settle;
       host = subst IsOpen (sym (changes.uses.standing ∙ reads.uses.standing)) c.requires.reading.opened;
       epoch = log.epoch;
       log = λ told. log.log (told_back changes.uses told);

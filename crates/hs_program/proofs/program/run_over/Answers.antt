@@ -3,11 +3,10 @@ use Rattle.hs_host.specs.Used.{Told}
 use Rattle.hs_program.specs.declared.damage.Damage.TheVariants.{Log, Invalid}
 use Rattle.hs_program.specs.declared.status.Status.TheVariants.{Usage}
 use Rattle.hs_program.specs.Run.{Runs}
-use Rattle.hs_program.proofs.Damaged.{opened_undamaged, opened_valid}
 use Rattle.hs_program.proofs.Stops.{calm_by, complete_as, complete_damaged_as, complete_long_as, foreign_by, foreign_kept, silent_by}
 use Rattle.hs_program.proofs.Worked.{idle_runs}
 use Rattle.hs_program.proofs.program.run_over.Goals as goal
-use Rattle.hs_program.proofs.program.run_over.Goals.{After-serve, In_default}
+use Rattle.hs_program.proofs.program.run_over.Goals.{In_default}
 
 -- ---- what a run did
 
@@ -65,6 +64,15 @@ returns-in_default-clause-damaged_kept g c = λ tells honest. (idle g (goal.at.r
 
 pub returns-in_default-clause-opened_first : goal.returns-in_default-clause-opened_first
 returns-in_default-clause-opened_first g c = λ tells honest. (idle g (goal.at.returns-in_default-clause-opened_first g c).In_default (record { tells = tells; honest = honest })).opened_first
+
+pub returns-in_default-clause-opened_alone : goal.returns-in_default-clause-opened_alone
+returns-in_default-clause-opened_alone g c = λ tells honest. (idle g (goal.at.returns-in_default-clause-opened_alone g c).In_default (record { tells = tells; honest = honest })).opened_alone
+
+pub returns-in_default-clause-damaged_alone : goal.returns-in_default-clause-damaged_alone
+returns-in_default-clause-damaged_alone g c = λ tells honest. (idle g (goal.at.returns-in_default-clause-damaged_alone g c).In_default (record { tells = tells; honest = honest })).damaged_alone
+
+pub returns-in_default-clause-invalid_alone : goal.returns-in_default-clause-invalid_alone
+returns-in_default-clause-invalid_alone g c = λ tells honest. (idle g (goal.at.returns-in_default-clause-invalid_alone g c).In_default (record { tells = tells; honest = honest })).invalid_alone
 
 pub returns-in_default-clause-damaged_silent : goal.returns-in_default-clause-damaged_silent
 returns-in_default-clause-damaged_silent g c = λ tells honest. (idle g (goal.at.returns-in_default-clause-damaged_silent g c).In_default (record { tells = tells; honest = honest })).damaged_silent
@@ -129,6 +137,15 @@ returns-clause-damaged_kept g c = λ tells honest. (c.serve.ensures.runs (record
 pub returns-clause-opened_first : goal.returns-clause-opened_first
 returns-clause-opened_first g c = λ tells honest. (c.serve.ensures.runs (record { tells = tells; honest = honest })).opened_first
 
+pub returns-clause-opened_alone : goal.returns-clause-opened_alone
+returns-clause-opened_alone g c = λ tells honest. (c.serve.ensures.runs (record { tells = tells; honest = honest })).opened_alone
+
+pub returns-clause-damaged_alone : goal.returns-clause-damaged_alone
+returns-clause-damaged_alone g c = λ tells honest. (c.serve.ensures.runs (record { tells = tells; honest = honest })).damaged_alone
+
+pub returns-clause-invalid_alone : goal.returns-clause-invalid_alone
+returns-clause-invalid_alone g c = λ tells honest. (c.serve.ensures.runs (record { tells = tells; honest = honest })).invalid_alone
+
 pub returns-clause-damaged_silent : goal.returns-clause-damaged_silent
 returns-clause-damaged_silent g c = λ tells honest. (c.serve.ensures.runs (record { tells = tells; honest = honest })).damaged_silent
 
@@ -179,23 +196,17 @@ returns-clause-silent g c = λ damaged. let silent = silent_by g.H.Source g.H.Ho
 -- where no device fails
 pub returns-clause-complete : goal.returns-clause-complete
 returns-clause-complete g c = λ tells honest own words input output disk opened is short.
-    let m = g.E.Engine.meaning in
-    let law = g.met.E.Engine.lawful in
-    let log = (g.H.Host.files c.args.host.now).log in
     let runs = c.serve.ensures.runs (record { tells = tells; honest = honest }) in
     complete_as g.H.Source g.H.Host c.serve.result c.args.host.now c.serve.new.host c.serve.ensures.ends tells own input output disk
-    (λ number damaged. opened_undamaged m law log opened number is (runs.damaged number damaged))
-    (λ name invalid. opened_valid m law log name opened is (runs.invalid name invalid)) (c.serve.ensures.too_long tells) short
+    (λ number damaged. (runs.damaged_alone number damaged).nothing opened is)
+    (λ name invalid. (runs.invalid_alone name invalid).nothing opened is) (c.serve.ensures.too_long tells) short
 
 pub returns-clause-complete_too_long : goal.returns-clause-complete_too_long
 returns-clause-complete_too_long g c = λ tells honest own words input output disk opened is long.
-    let m = g.E.Engine.meaning in
-    let law = g.met.E.Engine.lawful in
-    let log = (g.H.Host.files c.args.host.now).log in
     let runs = c.serve.ensures.runs (record { tells = tells; honest = honest }) in
     complete_long_as g.H.Source g.H.Host c.serve.result c.args.host.now c.serve.new.host c.serve.ensures.ends tells own input output disk
-    (λ number damaged. opened_undamaged m law log opened number is (runs.damaged number damaged))
-    (λ name invalid. opened_valid m law log name opened is (runs.invalid name invalid)) (λ done. (c.serve.ensures.read tells done).1) long
+    (λ number damaged. (runs.damaged_alone number damaged).nothing opened is)
+    (λ name invalid. (runs.invalid_alone name invalid).nothing opened is) (λ done. (c.serve.ensures.read tells done).1) long
 
 pub returns-clause-complete_damaged : goal.returns-clause-complete_damaged
 returns-clause-complete_damaged g c = λ tells honest own words disk number is.

@@ -66,7 +66,7 @@ begins g c =
     let m = g.E.Engine.meaning in
     let law = g.met.E.Engine.lawful in
     record {
-      at = c.turns-turns.ensures.ahead o.opened o.stands;
+      at = c.turns-turns.ensures.ahead o.opened o.stands o.sound;
       opened = o.host;
       epoch = o.epoch;
       kept = o.log;
@@ -113,7 +113,7 @@ runs g c told status turned =
     let honest = subst IsHonest (sym c.take_turns.ensures.ends.uses.all.standing) later.honest in
     turned_runs m g.met.E.Engine.lawful (g.H.Host.files old) (g.H.Source.unread old) (g.H.Host.written old) (g.H.Host.history old) (g.met.H.Host.output_now old told.tells)
     (g.H.Host.files new) (g.H.Host.written new) (g.H.Host.history new) (g.met.H.Host.output_now new told.tells) (g.met.H.Host.read_may_be_left new told.tells honest Log)
-    o.opened (o.is told) (g.H.Host.history here) (g.H.Host.files here) c.in-Ok.opening.log (o.log later) o.epoch (o.texts told)
+    o.opened (o.is told) (o.alone told) (g.H.Host.history here) (g.H.Host.files here) c.in-Ok.opening.log (o.log later) o.epoch (o.texts told)
     (g.met.H.Host.output_now here told.tells ∙ moves.uses.written) (moves.others told) (c.open_log.ensures.moments told) (moves.moments told) status
     (turned_from (ahead m (g.H.Host.files old).log o.opened) (texts_at (g.H.Host.files old).log) (texts_in (g.H.Host.files here)) (g.H.Source.unread old) (g.H.Source.unread here) (g.H.Host.written old) (g.H.Host.written here)
     (g.H.Host.files here) (g.H.Host.history here) (g.H.Host.files new) (g.H.Host.written new) (g.H.Host.history new) status (o.texts told) moves.uses.unread moves.uses.written turned)

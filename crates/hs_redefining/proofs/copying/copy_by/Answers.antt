@@ -1,7 +1,7 @@
 use Rattle.std.proofs.Common.{◌≡◌, ℕ, List, [], ◌∷◌, sym, subst}
 use Rattle.std.proofs.lemmas.Bool.{eq-eqb, ne_eqb}
 use Rattle.std.specs.FinMap.{empty}
-use Rattle.hs_database.specs.Definitions.{lengthened, with_rows}
+use Rattle.hs_turns.specs.Definitions.{lengthened, with_rows}
 use Rattle.hs_draft.specs.Drafted.{after}
 use Rattle.hs_values.specs.declared.value.Value.{Value}
 use Rattle.hs_redefining.specs.Effects.{rows_by}

@@ -1,4 +1,4 @@
-use Rattle.hs_database.specs.Definitions.{lengthened}
+use Rattle.hs_turns.specs.Definitions.{lengthened}
 use Rattle.hs_redefining.proofs.Mixed.{longer_within}
 use Rattle.hs_redefining.proofs.Partly.{partly_all, partly_lengthened, partly_none}
 use Rattle.hs_redefining.proofs.remaking.lengthen.Goals as goal

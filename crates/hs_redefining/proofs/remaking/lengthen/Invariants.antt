@@ -1,6 +1,6 @@
 use Rattle.std.proofs.Common.{◌-◌, ◌^◌}
 use Rattle.hs_changes.specs.Settings.{Maps}
-use Rattle.hs_database.specs.Definitions.{lengthened}
+use Rattle.hs_turns.specs.Definitions.{lengthened}
 use Rattle.hs_rows.specs.Numbers.{start}
 use Rattle.hs_seated.specs.Rows.{AreRows}
 use Rattle.hs_redefining.proofs.Partly.{ArePartly}

@@ -1,6 +1,6 @@
 use Rattle.std.proofs.Common.{subst}
 use Rattle.hs_changes.specs.Settings.{Maps}
-use Rattle.hs_database.specs.Definitions.{rows_after}
+use Rattle.hs_turns.specs.Definitions.{rows_after}
 use Rattle.hs_seated.specs.Rows.{AreRows}
 use Rattle.hs_redefining.proofs.remaking.remake_all.Goals as goal
 

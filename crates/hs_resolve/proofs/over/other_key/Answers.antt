@@ -1,4 +1,4 @@
-use Rattle.hs_surroundings.specs.Around.{seen}
+use Rattle.hs_meaning.specs.Around.{seen}
 use Rattle.hs_resolve.proofs.over.other_key.Goals as goal
 
 pub returns : goal.returns

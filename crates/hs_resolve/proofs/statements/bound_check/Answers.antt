@@ -5,7 +5,7 @@ use Rattle.hs_meaning.specs.Statements.{check_meaning, over}
 use Rattle.hs_meaning.specs.Surroundings.{Surroundings, in_check, over_rows}
 use Rattle.hs_meaning.specs.Trees.{part_of}
 use Rattle.hs_schema.specs.Catalogue.{Things}
-use Rattle.hs_surroundings.specs.Around.{seen}
+use Rattle.hs_meaning.specs.Around.{seen}
 use Rattle.hs_typed.specs.declared.typed.Typed.{Typed}
 use Rattle.hs_resolve.proofs.Answered.{part_answered}
 use Rattle.hs_resolve.proofs.statements.bound_check.Goals as goal

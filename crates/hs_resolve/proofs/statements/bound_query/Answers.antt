@@ -1,7 +1,7 @@
 use Rattle.std.proofs.Common.{◌≡◌, ap, ◌∙◌}
 use Rattle.hs_meaning.specs.Statements.{query_meaning}
 use Rattle.hs_meaning.specs.Trees.{query_of}
-use Rattle.hs_surroundings.specs.Around.{seen}
+use Rattle.hs_meaning.specs.Around.{seen}
 use Rattle.hs_resolve.proofs.Answered.{query_answered}
 use Rattle.hs_resolve.proofs.statements.bound_query.Goals as goal
 

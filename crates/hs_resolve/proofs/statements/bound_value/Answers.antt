@@ -4,7 +4,7 @@ use Rattle.hs_meaning.specs.Layers.{means}
 use Rattle.hs_meaning.specs.Statements.{over}
 use Rattle.hs_meaning.specs.Surroundings.{Surroundings, over_rows}
 use Rattle.hs_meaning.specs.Trees.{part_of}
-use Rattle.hs_surroundings.specs.Around.{seen}
+use Rattle.hs_meaning.specs.Around.{seen}
 use Rattle.hs_typed.specs.Rules.{assigned_typed}
 use Rattle.hs_resolve.proofs.Answered.{judged_answered}
 use Rattle.hs_resolve.proofs.statements.bound_value.Goals as goal

@@ -1,6 +1,6 @@
 use Rattle.std.proofs.Common.{List, ℕ, length, ap, subst, ◌∙◌, IsUtf8, arith}
 use Rattle.std.specs.List.{prefix_len}
-use Rattle.hs_rowtext.specs.Numbers.{is_digit}
+use Rattle.hs_lexer.specs.Bytes.{is_digit}
 use Rattle.hs_rowtext.proofs.NumberLemmas.{digits_boundary}
 use Rattle.hs_rowtext.proofs.numbers.digits.Goals as goal
 

@@ -1,6 +1,6 @@
 use Rattle.std.proofs.Common.{◌≡◌, ◌+◌, drop}
 use Rattle.std.specs.List.{prefix_len}
-use Rattle.hs_rowtext.specs.Numbers.{is_digit}
+use Rattle.hs_lexer.specs.Bytes.{is_digit}
 use Rattle.hs_rowtext.proofs.numbers.digits_len.Given as goal
 
 abbrev pub invariant-loop-at : goal.invariant-loop-at

@@ -1,7 +1,7 @@
 use Rattle.std.proofs.Common.{List, take, sym, subst, arith}
 use Rattle.std.proofs.lemmas.List.{take_all}
 use Rattle.hs_plan.specs.declared.change.Change.{Change}
-use Rattle.hs_database.specs.Database.{Database, apply, is_definition}
+use Rattle.hs_turns.specs.Database.{Database, apply, is_definition}
 use Rattle.hs_seated.specs.Rows.{AreRows}
 use Rattle.hs_seated.proofs.Made.{count_at, made_on, none_at}
 use Rattle.hs_seated.proofs.making.make_all.Goals as goal

@@ -1,6 +1,6 @@
 use Rattle.std.proofs.Common.{◌≡◌, ◌+◌, false, take}
 use Rattle.std.specs.List.{list_any}
-use Rattle.hs_database.specs.Database.{Database, apply, is_definition}
+use Rattle.hs_turns.specs.Database.{Database, apply, is_definition}
 use Rattle.hs_seated.specs.Rows.{AreRows}
 use Rattle.hs_seated.proofs.making.make_all.Given as goal
 

@@ -1,5 +1,5 @@
 use Rattle.std.proofs.Common.{◌≡◌, map, take}
-use Rattle.hs_database.specs.Numbers.{final_change}
+use Rattle.hs_turns.specs.Numbers.{final_change}
 use Rattle.hs_seated.proofs.numbering.final_changes.Given as goal
 
 abbrev pub invariant-loop-change : goal.invariant-loop-change

@@ -1,5 +1,5 @@
 use Rattle.std.proofs.Common.{◌≡◌, ◌+◌, ◌++◌, take, sym, ap, ◌∙◌, arith}
-use Rattle.hs_database.specs.Numbers.{number_in, numbers_from}
+use Rattle.hs_turns.specs.Numbers.{number_in, numbers_from}
 use Rattle.hs_seated.proofs.Counted.{numbers_on}
 use Rattle.hs_seated.proofs.numbering.numbers.Goals as goal
 

@@ -1,5 +1,5 @@
 use Rattle.std.proofs.Common.{◌≡◌, ◌+◌, take}
-use Rattle.hs_database.specs.Numbers.{numbers_from}
+use Rattle.hs_turns.specs.Numbers.{numbers_from}
 use Rattle.hs_seated.proofs.numbering.numbers.Given as goal
 
 abbrev pub invariant-loop-change : goal.invariant-loop-change

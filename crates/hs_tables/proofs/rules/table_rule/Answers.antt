@@ -1,6 +1,6 @@
 use Rattle.std.proofs.Common.{◌≡◌, subst}
 use Rattle.hs_ast.specs.declared.definition.TableRule.TheVariants as table
-use Rattle.hs_surroundings.specs.Finding.{Finds}
+use Rattle.hs_meaning.specs.Finding.{Finds}
 use Rattle.hs_tables.specs.Rules.{reference, table_rule}
 use Rattle.hs_tables.specs.Site.{seen}
 use Rattle.hs_tables.proofs.rules.table_rule.Goals as goal

@@ -3,7 +3,7 @@ use Rattle.std.proofs.lemmas.Result.{on_ok_weaker}
 use Rattle.hs_columntext.specs.Columns.{columns_text}
 use Rattle.hs_keytext.specs.Owners.{seen}
 use Rattle.hs_keytext.proofs.Printed.{printed4}
-use Rattle.hs_linetext.specs.Constraints.{constraint_lines}
+use Rattle.hs_tabletext.specs.Constraints.{constraint_lines}
 use Rattle.hs_tabletext.proofs.printing.print_body.Goals as goal
 
 pub returns : goal.returns

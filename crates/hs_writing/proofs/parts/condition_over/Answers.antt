@@ -3,7 +3,7 @@ use Rattle.hs_meaning.specs.Layers.{means}
 use Rattle.hs_meaning.specs.Parts.{by_one}
 use Rattle.hs_meaning.specs.Statements.{over}
 use Rattle.hs_meaning.specs.Trees.{part_of}
-use Rattle.hs_surroundings.specs.Finding.{Finds}
+use Rattle.hs_meaning.specs.Finding.{Finds}
 use Rattle.hs_typed.specs.Rules.{condition_typed}
 use Rattle.hs_writing.proofs.Places.{at_is}
 use Rattle.hs_writing.proofs.parts.condition_over.Goals as goal

@@ -1,7 +1,7 @@
 use Rattle.std.proofs.Common.{◌≡◌, [], List, OnOk, ap, ◌∙◌, subst}
 use Rattle.std.specs.List.{list_any}
-use Rattle.hs_database.specs.Database.{apply, is_definition}
-use Rattle.hs_database.specs.Numbers.{numbered}
+use Rattle.hs_turns.specs.Database.{apply, is_definition}
+use Rattle.hs_turns.specs.Numbers.{numbered}
 use Rattle.hs_plan.specs.declared.change.Change.{Change}
 use Rattle.hs_seated.proofs.Counted.{numbered_kinds}
 use Rattle.hs_instance.specs.Instance.{IsInstance}

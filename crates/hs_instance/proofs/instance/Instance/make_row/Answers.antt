@@ -1,6 +1,6 @@
 use Rattle.std.proofs.Common.{◌||◌, false, [], List, OnOk, ap, ◌∙◌, subst}
 use Rattle.std.specs.List.{list_any}
-use Rattle.hs_database.specs.Database.{apply, is_definition}
+use Rattle.hs_turns.specs.Database.{apply, is_definition}
 use Rattle.hs_plan.specs.declared.change.Change.{Change}
 use Rattle.hs_instance.specs.Instance.{IsInstance}
 use Rattle.hs_instance.proofs.instance.Instance.make_row.Goals as goal

@@ -1,6 +1,6 @@
 use Rattle.std.proofs.Common.{◌≡◌, ℕ, ◌+◌, List, [], ◌++◌, map, ap, sym, ◌∙◌, subst}
 use Rattle.std.specs.Prelude.{option_to_list}
-use Rattle.hs_histories.specs.Each.{Each}
+use Rattle.hs_turns.specs.Each.{Each}
 use Rattle.hs_queue.specs.Entries.{queued_of}
 use Rattle.hs_queue.specs.Lanes.{Queued}
 use Rattle.hs_queue.proofs.Held.{at_place, each_at, empty_by, few_at, none_of, of_place, put, put_same, rest_each, some_front, some_of}

@@ -1,7 +1,7 @@
 use Rattle.std.proofs.Common.{◌≡◌, ℕ, ◌+◌, List, [], ◌∷◌, ◌++◌, map, ap, sym, ◌∙◌, subst}
 use Rattle.std.specs.Prelude.{slice_set}
 use Rattle.std.proofs.lemmas.List.{map_push}
-use Rattle.hs_histories.specs.Each.{Each}
+use Rattle.hs_turns.specs.Each.{Each}
 use Rattle.hs_queue.specs.Entries.{queued_of}
 use Rattle.hs_queue.specs.Lanes.{Queued}
 use Rattle.hs_queue.specs.declared.lanes.Ticketed.{Ticketed}

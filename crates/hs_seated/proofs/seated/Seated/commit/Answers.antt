@@ -1,6 +1,6 @@
 use Rattle.std.proofs.Common.{◌≡◌, ◌<◌, [], length, refl, arith}
 use Rattle.std.proofs.lemmas.Option.{slice_get_within}
-use Rattle.hs_database.specs.Database.{apply}
+use Rattle.hs_turns.specs.Database.{apply}
 use Rattle.hs_seated.specs.Seated.{IsSeated}
 use Rattle.hs_seated.proofs.seated.Seated.commit.Goals as goal
 

@@ -1,5 +1,5 @@
 use Rattle.std.proofs.Common.{◌∷◌, [], ◌∙◌, refl, sym, arith}
-use Rattle.hs_histories.specs.Events.{definition_commit}
+use Rattle.hs_turns.specs.Events.{definition_commit}
 use Rattle.hs_moves.specs.Fits.{changes_of}
 use Rattle.hs_moves.proofs.Defining.{define_many}
 use Rattle.hs_plan.specs.declared.change.Change.TheVariants as change

@@ -1,6 +1,6 @@
 use Rattle.std.proofs.Common.{◌≡◌, refl, subst}
 use Rattle.hs_controls.specs.Sights.{behind_own}
-use Rattle.hs_histories.specs.Histories.{Open}
+use Rattle.hs_turns.specs.Histories.{Open}
 use Rattle.hs_moves.specs.Fits.{kept_of}
 use Rattle.hs_moves.proofs.Seating.{number_of}
 use Rattle.hs_queue.specs.Entries.{entry_of}

@@ -1,7 +1,7 @@
 use Rattle.std.proofs.Common.{◌≡◌, ◌∙◌, refl, ap, subst}
 use Rattle.hs_holding.specs.declared.holding.Holding.{Holding}
 use Rattle.hs_holding.specs.Held.{is_open_at}
-use Rattle.hs_histories.specs.Histories.{Open}
+use Rattle.hs_turns.specs.Histories.{Open}
 use Rattle.hs_moves.specs.Fits.{Fits, kept_of}
 use Rattle.hs_seams.specs.World.{World}
 use Rattle.hs_sides.specs.Sides.{side_of}

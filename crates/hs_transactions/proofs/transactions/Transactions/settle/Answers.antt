@@ -1,5 +1,5 @@
 use Rattle.std.proofs.Common.{◌≤◌, List, length, refl, sym, ap, ◌∙◌, subst, arith}
-use Rattle.hs_histories.specs.Histories.{commit_of}
+use Rattle.hs_turns.specs.Histories.{commit_of}
 use Rattle.hs_moves.specs.Fits.{changes_of}
 use Rattle.hs_moves.proofs.Worlds.{number_fits}
 use Rattle.hs_plan.specs.declared.change.Change.{Change}

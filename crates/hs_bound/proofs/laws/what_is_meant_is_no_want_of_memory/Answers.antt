@@ -1,5 +1,0 @@
-use Rattle.hs_bound.proofs.NoWant.{bound_there}
-use Rattle.hs_bound.proofs.laws.what_is_meant_is_no_want_of_memory.Goals as goal
-
-pub returns : goal.returns
-returns c = bound_there

@@ -1,5 +1,0 @@
-use Rattle.hs_database.proofs.Applied.{apply-append, apply-count, committed-count}
-use Rattle.hs_database.proofs.laws.changes_are_made_one_after_another.Goals as goal
-
-pub returns : goal.returns
-returns c = record { behind = apply-append; count = apply-count; committed_count = committed-count }

@@ -1,5 +1,0 @@
-use Rattle.hs_database.proofs.Renumbered.{seen_is_committed}
-use Rattle.hs_database.proofs.laws.what_a_transaction_saw_is_committed.Goals as goal
-
-pub returns : goal.returns
-returns c = seen_is_committed

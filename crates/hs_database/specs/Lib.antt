@@ -1,3 +1,0 @@
-pub mod Database
-pub mod Definitions
-pub mod Numbers

@@ -1,4 +1,0 @@
-pub mod DefinitionLemmas
-pub mod ChangeLemmas
-pub mod OneText
-pub mod Printable

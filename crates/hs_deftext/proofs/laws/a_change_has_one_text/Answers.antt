@@ -1,7 +1,0 @@
-use Rattle.hs_deftext.proofs.OneText.{there, only}
-use Rattle.hs_deftext.proofs.laws.a_change_has_one_text.Goals as goal
-
-pub returns : goal.returns
-returns g c =
-    let wording = g.C.Conditions.wording c.args.conditions.now in
-    record { there = there wording; only = only wording }

@@ -1,7 +1,0 @@
-use Rattle.hs_deftext.proofs.Printable.{change_printable, text_printable}
-use Rattle.hs_deftext.proofs.laws.a_change_that_has_a_text_can_be_printed.Goals as goal
-
-pub returns : goal.returns
-returns g c =
-    let wording = g.C.Conditions.wording c.args.conditions.now in
-    record { lawful = change_printable wording; read = text_printable wording }

@@ -1,3 +1,0 @@
-pub mod OfNull
-pub mod Wholes
-pub mod Years

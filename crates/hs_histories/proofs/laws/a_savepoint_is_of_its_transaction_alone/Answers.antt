@@ -1,5 +1,0 @@
-use Rattle.hs_histories.proofs.Controlled.{controlled_alike}
-use Rattle.hs_histories.proofs.laws.a_savepoint_is_of_its_transaction_alone.Goals as goal
-
-pub returns : goal.returns
-returns c = controlled_alike

@@ -1,5 +1,0 @@
-use Rattle.hs_histories.proofs.Alone.{alone_is}
-use Rattle.hs_histories.proofs.laws.alone_is_what_one_session_comes_to.Goals as goal
-
-pub returns : goal.returns
-returns c = λ lang opening kind commits e statements auto. alone_is lang opening kind commits e auto statements

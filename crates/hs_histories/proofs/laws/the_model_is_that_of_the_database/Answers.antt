@@ -1,5 +1,0 @@
-use Rattle.hs_histories.proofs.Whole.{whole}
-use Rattle.hs_histories.proofs.laws.the_model_is_that_of_the_database.Goals as goal
-
-pub returns : goal.returns
-returns c = λ lang opening events laws stands. (whole lang laws opening stands events).model

@@ -1,2 +1,0 @@
-pub mod CleanRules
-pub mod ConstraintLemmas

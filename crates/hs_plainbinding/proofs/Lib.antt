@@ -1,9 +1,0 @@
-pub mod Answered
-pub mod Binding
-pub mod Catalogues
-pub mod Lists
-pub mod SingleChanges
-pub mod SingleDefinitions
-pub mod SingleNames
-pub mod SingleRules
-pub mod TextNames

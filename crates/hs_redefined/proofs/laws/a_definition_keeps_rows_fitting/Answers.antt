@@ -1,5 +1,0 @@
-use Rattle.hs_redefined.proofs.Accepted.{fitting_after}
-use Rattle.hs_redefined.proofs.laws.a_definition_keeps_rows_fitting.Goals as goal
-
-pub returns : goal.returns
-returns c = fitting_after

@@ -1,5 +1,0 @@
-use Rattle.hs_redefined.proofs.Accepted.{valid_after}
-use Rattle.hs_redefined.proofs.laws.an_accepted_definition_leaves_a_valid_database.Goals as goal
-
-pub returns : goal.returns
-returns c = valid_after

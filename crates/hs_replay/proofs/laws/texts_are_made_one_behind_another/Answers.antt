@@ -1,5 +1,0 @@
-use Rattle.hs_replay.proofs.Replaying.{behind}
-use Rattle.hs_replay.proofs.laws.texts_are_made_one_behind_another.Goals as goal
-
-pub returns : goal.returns
-returns g c = behind (g.C.Conditions.wording c.args.conditions.now) g.D.Restored.takes

@@ -1,2 +1,0 @@
-pub mod Ongoing
-pub mod Valid

@@ -1,5 +1,0 @@
-use Rattle.hs_roomy.proofs.Runs.{had_room}
-use Rattle.hs_roomy.proofs.laws.commits_of_a_run_had_room.Goals as goal
-
-pub returns : goal.returns
-returns c = had_room

@@ -1,5 +1,0 @@
-use Rattle.hs_sqlworlds.proofs.Plain.{sql_plain_as_read}
-use Rattle.hs_sqlworlds.proofs.laws.sql_as_it_is_read_is_plain.Goals as goal
-
-pub returns : goal.returns
-returns c = sql_plain_as_read
