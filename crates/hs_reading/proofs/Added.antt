@@ -1,5 +1,5 @@
 -- What a definition adds is new, and its foreign keys reference keys.
-use Rattle.std.proofs.Common.{◌≡◌, ◌==◌, ℕ, Bool, true, false, not, length, List, [], ◌∷◌, ◌++◌, map, zip, Option, None, Some, refl, sym, ap, ◌∙◌, arith, if◌then◌else◌}
+use Rattle.std.proofs.Common.{◌≡◌, ◌==◌, ℕ, Bool, true, false, not, length, List, [], ◌++◌, map, zip, Option, None, Some, refl, sym, ap, ◌∙◌, arith, if◌then◌else◌}
 use Rattle.std.proofs.lemmas.Bool.{and_from}
 use Rattle.std.proofs.lemmas.List.{append-nil, length-map}
 use Rattle.std.proofs.lemmas.List.Concat.{flat_map-append}
@@ -14,11 +14,10 @@ use Rattle.hs_elements.specs.Faults.{Text, fault_at, repeated, where_so}
 use Rattle.hs_meaning.specs.Parts.{Meaning}
 use Rattle.hs_meaning.specs.Queries.{uneven}
 use Rattle.hs_outlines.specs.Columns.{columns_faults, definitions}
-use Rattle.hs_outlines.specs.ForeignKeys.{all_alike, foreign_key, is_key, parent_of, reference_by, reference_faults, referenced, table_or_none, unlike_at}
+use Rattle.hs_outlines.specs.ForeignKeys.{all_alike, is_key, parent_of, reference_by, reference_faults, referenced, table_or_none}
 use Rattle.hs_outlines.specs.Limits.{beyond}
 use Rattle.hs_outlines.specs.Named.{AreNamed, name_faults, primary_name, written}
 use Rattle.hs_outlines.specs.Outline.{Outlined, key_by, keys_of, keys_written, outline_of, places_in}
-use Rattle.hs_outlines.specs.declared.outline.Key.{Key}
 use Rattle.hs_plan.specs.declared.definition.Constraint.{Constraint}
 use Rattle.hs_plan.specs.declared.definition.Definition.{Definition}
 use Rattle.hs_plan.specs.declared.definition.Rule.{Rule}

@@ -1,5 +1,5 @@
 -- What the binder answers to a definition is proper.
-use Rattle.std.proofs.Common.{◌≡◌, ℕ, suc, Bool, true, false, length, is_some, List, [], ◌∷◌, ◌++◌, Option, None, Some, Result, Ok, Err, slice_get, refl, sym, ap, ap₂, ◌∙◌, subst, arith, if◌then◌else◌}
+use Rattle.std.proofs.Common.{◌≡◌, ℕ, Bool, true, false, length, is_some, List, [], ◌∷◌, ◌++◌, Option, None, Some, Result, Ok, Err, refl, sym, ap, ap₂, ◌∙◌, subst, arith, if◌then◌else◌}
 use Rattle.std.proofs.lemmas.Bool.{and_from}
 use Rattle.std.proofs.lemmas.List.Elements.{All-head}
 use Rattle.std.specs.List.{list_all}
@@ -11,27 +11,24 @@ use Rattle.hs_ast.specs.declared.definition.ColumnDefinition.{ColumnDefinition}
 use Rattle.hs_ast.specs.declared.definition.CreateIndex.{CreateIndex}
 use Rattle.hs_ast.specs.declared.definition.CreateTable.{CreateTable}
 use Rattle.hs_ast.specs.declared.definition.TableConstraint.{TableConstraint}
-use Rattle.hs_ast.specs.declared.definition.TableElement.{TableElement}
 use Rattle.hs_ast.specs.declared.statement.Stmt.{Stmt}
 use Rattle.hs_ast.specs.declared.statement.Stmt.TheVariants as s
 use Rattle.hs_ast.specs.declared.word.Identifier.{Identifier}
 use Rattle.hs_drops.specs.Answers.{Answer, Answers, AnswersIndex}
-use Rattle.hs_drops.specs.Definitions.{constraint_dropped, has_constraint, index_by, index_created, index_dropped, is_index_of, no_name, no_table, table_dropped}
+use Rattle.hs_drops.specs.Definitions.{constraint_dropped, has_constraint, index_by, index_dropped, is_index_of, no_name, no_table, table_dropped}
 use Rattle.hs_elements.specs.Columns.{columns_of, unknown}
 use Rattle.hs_elements.specs.Faults.{Text, exists_at, no_such_column_at, no_such_table_at, repeated, where_so}
-use Rattle.hs_meaning.specs.Parts.{Meaning, meant}
+use Rattle.hs_meaning.specs.Parts.{meant}
 use Rattle.hs_outlines.specs.Columns.{column_of, columns_written, definitions}
 use Rattle.hs_outlines.specs.Limits.{beyond}
 use Rattle.hs_outlines.specs.Named.{AreNamed, written}
 use Rattle.hs_outlines.specs.Outline.{places_in}
-use Rattle.hs_plan.specs.declared.definition.Column.{Column}
 use Rattle.hs_plan.specs.declared.definition.Constraint.{Constraint}
 use Rattle.hs_plan.specs.declared.definition.Definition.{Definition}
 use Rattle.hs_plan.specs.declared.definition.Definition.TheVariants as d
 use Rattle.hs_plan.specs.declared.definition.Rule.{Rule}
 use Rattle.hs_plan.specs.declared.fault.BindFault.{BindFault}
 use Rattle.hs_plan.specs.declared.fault.BindFault.TheVariants as fault
-use Rattle.hs_plan.specs.declared.fault.PlacedFault.{PlacedFault}
 use Rattle.hs_plan.specs.declared.fault.Which.TheVariants as which
 use Rattle.hs_plan.specs.declared.plan.Plan.{Plan}
 use Rattle.hs_plan.specs.declared.plan.Plan.TheVariants as plan
@@ -43,8 +40,8 @@ use Rattle.hs_schema.specs.declared.table.Table.{Table}
 use Rattle.hs_schema.proofs.Lists.{same_text}
 use Rattle.hs_statements.specs.Statements.{AnswersStatement, Gives, is_serializable}
 use Rattle.hs_tables.specs.Additions.{Base, added, named, whole as outlined}
-use Rattle.hs_tables.specs.Answers.{AnswersAction, AnswersCreate, AnswersNamed, ByNames}
-use Rattle.hs_tables.specs.Definitions.{base_of, by_column, by_constraint, column_added, constraint_added, new_table, table_added, table_created, with_first}
+use Rattle.hs_tables.specs.Answers.{AnswersAction, AnswersCreate, AnswersNamed}
+use Rattle.hs_tables.specs.Definitions.{base_of, by_column, by_constraint, column_added, constraint_added, new_table, table_added, with_first}
 use Rattle.hs_tables.specs.Rules.{rules}
 use Rattle.hs_tables.specs.Site.{sight_of}
 use Rattle.hs_language.specs.Sound.{has_fitting_default}

@@ -1,12 +1,12 @@
 -- Keys as the binder sees them are keys of constraints.
-use Rattle.std.proofs.Common.{◌≡◌, ℕ, Bool, true, false, ◌&&◌, ◌||◌, nat_eq, find, List, [], ◌∷◌, Option, None, Some, cond, refl, sym, ap, ap₂, ◌∙◌, if◌then◌else◌}
+use Rattle.std.proofs.Common.{◌≡◌, ℕ, Bool, true, false, ◌||◌, nat_eq, find, List, [], ◌∷◌, Option, None, Some, cond, refl, sym, ap, ap₂, ◌∙◌, if◌then◌else◌}
 use Rattle.std.proofs.lemmas.Bool.{and_from, eq-eqb, or_left, or_right}
 use Rattle.std.proofs.lemmas.List.Folds.{list_any-append}
 use Rattle.std.specs.List.{list_any}
 use Rattle.std.specs.Option.{option_map}
 use Rattle.hs_ast.specs.declared.word.Identifier.{Identifier}
 use Rattle.hs_footprint.specs.Touched.{are_same, key_columns}
-use Rattle.hs_outlines.specs.ForeignKeys.{are_among, if_key, is_key, primary_key, referenced, same_set}
+use Rattle.hs_outlines.specs.ForeignKeys.{are_among, if_key, is_key, referenced, same_set}
 use Rattle.hs_outlines.specs.Outline.{Outlined, key_by, keys_of, places_in}
 use Rattle.hs_outlines.specs.declared.outline.Key.{Key}
 use Rattle.hs_plan.specs.declared.definition.Constraint.{Constraint}

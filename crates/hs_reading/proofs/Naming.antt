@@ -1,21 +1,19 @@
 -- The names of a definition's constraints are new, and differ.
-use Rattle.std.proofs.Common.{◌≡◌, suc, Bool, true, false, ◌||◌, is_some, length, List, [], ◌∷◌, ◌++◌, map, zip, Option, None, Some, refl, sym, ap, ◌∙◌, subst, arith}
+use Rattle.std.proofs.Common.{◌≡◌, suc, true, false, is_some, length, List, [], ◌∷◌, ◌++◌, map, Option, None, Some, refl, sym, ap, ◌∙◌, subst, arith}
 use Rattle.std.proofs.lemmas.Bool.{or_parts}
 use Rattle.std.proofs.lemmas.List.Elements.{All-from_recursion}
 use Rattle.std.proofs.lemmas.List.Folds.{list_any-append}
 use Rattle.std.proofs.lemmas.Map.Keys.{IsDistinct-cons}
-use Rattle.std.specs.List.{AllByRecursion, IsDistinct, list_any}
+use Rattle.std.specs.List.{AllByRecursion, IsDistinct}
 use Rattle.std.specs.Str.{bytes_eq}
 use Rattle.hs_ast.specs.declared.word.Identifier.{Identifier}
-use Rattle.hs_elements.specs.Faults.{Text, exists_at, is_among, where_so}
-use Rattle.hs_elements.specs.Names.{numbered}
+use Rattle.hs_elements.specs.Faults.{Text, exists_at, is_among}
 use Rattle.hs_elements.specs.declared.names.ConstraintKind.{ConstraintKind}
 use Rattle.hs_elements.proofs.Typed.{flipped}
-use Rattle.hs_outlines.specs.Named.{AreNamed, IsName, IsNameBy, clash, first_key, is_taken, name_faults, second}
+use Rattle.hs_outlines.specs.Named.{AreNamed, IsNameBy, clash, first_key, is_taken, name_faults, second}
 use Rattle.hs_outlines.specs.declared.written.Written.{Written}
 use Rattle.hs_plan.specs.declared.definition.Constraint.{Constraint}
 use Rattle.hs_plan.specs.declared.definition.Rule.{Rule}
-use Rattle.hs_plan.specs.declared.fault.PlacedFault.{PlacedFault}
 use Rattle.hs_schema.specs.Catalogue.{AreNew, Things, owner_of}
 use Rattle.hs_tables.specs.Additions.{named}
 use Rattle.hs_reading.proofs.Faults.{none_both, not_so}

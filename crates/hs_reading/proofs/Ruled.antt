@@ -15,7 +15,7 @@ use Rattle.hs_ast.specs.declared.definition.TableElement.TheVariants as element
 use Rattle.hs_ast.specs.declared.definition.TableRule.{TableRule}
 use Rattle.hs_ast.specs.declared.definition.TableRule.TheVariants as table
 use Rattle.hs_ast.specs.declared.word.Identifier.{Identifier}
-use Rattle.hs_elements.specs.Columns.{TypedNames, place_in}
+use Rattle.hs_elements.specs.Columns.{place_in}
 use Rattle.hs_elements.specs.Faults.{Text}
 use Rattle.hs_meaning.specs.Parts.{Meaning, known, tree_in, with_part}
 use Rattle.hs_meaning.specs.Statements.{check_meaning}
