@@ -1,0 +1,4 @@
+pub mod Conditions
+pub mod Tested
+pub mod Sql
+pub mod Meets
