@@ -68,6 +68,10 @@ pub fn shown(alloc: Global, status: &Status) -> Result<String, AllocError> {
         Status::NoMemory => String::from_str(alloc, "out of memory"),
         Status::Damaged(Damage::Foreign) => String::from_str(alloc, "damaged foreign"),
         Status::Damaged(Damage::Log(group)) => format!(in alloc; "damaged log {group}"),
+        Status::Damaged(Damage::Invalid(name)) => {
+            let name = name.as_str();
+            format!(in alloc; "damaged constraint {name}")
+        }
         Status::InputTooLong => String::from_str(alloc, "input too long"),
     }
 }

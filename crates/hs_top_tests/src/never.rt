@@ -1,8 +1,11 @@
 // A run over a host on which nothing fails.
-ghost use Rattle.std.specs.Prelude.{◌≡◌, ◌⊎◌, ℕ, ◌<◌, ◌≤◌, ◌^◌, None, Ok, Err, length};
+ghost use Rattle.std.specs.Prelude.{◌≡◌, ◌⊎◌, ℕ, ◌<◌, ◌≤◌, ◌^◌, List, None, length};
+ghost use Rattle.hs_engine.specs.Standing.{sql_meaning};
 ghost use Rattle.hs_host.specs.Files.{IsUnnamed};
-ghost use Rattle.hs_top.specs.Command.{database_of};
-ghost use Rattle.hs_top.specs.Opening.{Opened, opened_of};
+ghost use Rattle.hs_program.specs.Command.{database_of};
+ghost use Rattle.hs_program.specs.Damaged.{IsDamagedAt};
+ghost use Rattle.hs_program.specs.Meaning.{Opened};
+ghost use Rattle.hs_program.specs.Opening.{IsInvalid, IsOpened};
 
 use hs_host::{Host, Source};
 use hs_memhost::NeverFails;
@@ -15,9 +18,10 @@ use std::alloc::Global;
 pub fn run_where_nothing_fails(alloc: Global, words: &Words, host: &mut NeverFails) -> Status
     requires { IsUnnamed (⟦<NeverFails as Host>⟧.standing host.old) }
     ensures usage { database_of words.now ≡ None → result ≡ Status.Usage }
-    ensures done { (database_of words.now ≡ None → ⊥) → (opened : Opened) → opened_of (⟦<NeverFails as Host>⟧.files host.old).log ≡ Ok opened → length (⟦<NeverFails as Source>⟧.unread host.old) ≤ 2 ^ 30 → (result ≡ Status.Done) ⊎ (result ≡ Status.NoMemory) }
-    ensures too_long { (database_of words.now ≡ None → ⊥) → (opened : Opened) → opened_of (⟦<NeverFails as Host>⟧.files host.old).log ≡ Ok opened → 2 ^ 30 < length (⟦<NeverFails as Source>⟧.unread host.old) → (result ≡ Status.InputTooLong) ⊎ (result ≡ Status.NoMemory) }
-    ensures damaged { (database_of words.now ≡ None → ⊥) → (number : ℕ) → opened_of (⟦<NeverFails as Host>⟧.files host.old).log ≡ Err number → (result ≡ Status.Damaged (Damage.Log number)) ⊎ (result ≡ Status.NoMemory) }
+    ensures done { (database_of words.now ≡ None → ⊥) → (opened : Opened) → IsOpened sql_meaning (⟦<NeverFails as Host>⟧.files host.old).log opened → length (⟦<NeverFails as Source>⟧.unread host.old) ≤ 2 ^ 30 → (result ≡ Status.Done) ⊎ (result ≡ Status.NoMemory) }
+    ensures too_long { (database_of words.now ≡ None → ⊥) → (opened : Opened) → IsOpened sql_meaning (⟦<NeverFails as Host>⟧.files host.old).log opened → 2 ^ 30 < length (⟦<NeverFails as Source>⟧.unread host.old) → (result ≡ Status.InputTooLong) ⊎ (result ≡ Status.NoMemory) }
+    ensures damaged { (database_of words.now ≡ None → ⊥) → (number : ℕ) → IsDamagedAt sql_meaning (⟦<NeverFails as Host>⟧.files host.old).log number → (result ≡ Status.Damaged (Damage.Log number)) ⊎ (result ≡ Status.NoMemory) }
+    ensures invalid { (database_of words.now ≡ None → ⊥) → (name : List ℕ) → IsInvalid sql_meaning (⟦<NeverFails as Host>⟧.files host.old).log name → (result ≡ Status.Damaged (Damage.Invalid name)) ⊎ (result ≡ Status.NoMemory) }
 {
     run(alloc, words, host)
 }

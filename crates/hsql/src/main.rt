@@ -41,6 +41,10 @@ fn say<'a, F: Files<File = File>, R: Read + Drop, W: Write + Drop>(
         Status::Damaged(Damage::Log(group)) => {
             eprintln!(rt; "hsql: damaged log {group}: {name}.log")
         }
+        Status::Damaged(Damage::Invalid(constraint)) => {
+            let constraint = constraint.as_str();
+            eprintln!(rt; "hsql: damaged constraint {constraint}: {name}.log")
+        }
         Status::InputTooLong => eprintln!(rt; "hsql: input too long"),
     }
 }

@@ -15,8 +15,9 @@ const FIRST: &[u8] =
 const TWO: &[u8] = b"a: CREATE TABLE T (N BIGINT);b: INSERT INTO T VALUES (7);";
 
 // The calls of the host in a run, by their devices: the disk, the output and the input. A log that is born and short is
-// looked at by two calls, read by two, and synced, cut and synced again, which are as many as a new one takes.
-const CALLS: &str = "DDDDDDDOIDDDDDDDDOIO";
+// looked at by two calls, read by two, and synced, cut and synced again, which are as many as a new one takes. The two
+// commits of the input are written together.
+const CALLS: &str = "DDDDDDDOIDDDDOIO";
 
 // As many bytes as ` committed 1/` has.
 const END_BYTES: usize = 13;
@@ -40,8 +41,8 @@ fn acknowledged(text: &[u8]) -> u32 {
 }
 
 // Each call fails in turn of a run with two commits over a log that has so many: the status is that device's, a
-// prefix of the output is written, and the log that is left opens at a commit, and not before one that was
-// acknowledged.
+// prefix of the output is written, and the log that is left opens before both commits or behind both, as they are behind
+// one gate, and not before one that was acknowledged.
 fn each_call_fails(
     rt: &impl Abort,
     alloc: Global,
@@ -67,13 +68,12 @@ fn each_call_fails(
             Some(digit) => u32::from(*digit).saturating_sub(48),
             None => 9,
         };
-        // Where the disk failed, at most the last commit has no reply.
         let least = commits.saturating_add(acknowledged(&run.text));
-        let most = match device {
-            b'D' => least.saturating_add(1),
-            _ => commits.saturating_add(2),
-        };
-        assert!(rt; least <= opened && opened <= most, "at call {call}");
+        assert!(rt; least <= opened, "at call {call}");
+        assert!(rt;
+            opened == commits || opened == commits.saturating_add(2),
+            "at call {call}"
+        );
     }
     let past = calls.len() as u64;
     let run = shown(alloc, input, 100_000, log, &[past])?;

@@ -191,17 +191,25 @@ fn replies_come_before_more_input(rt: HostRuntime) -> Result<(), Fail> {
     Ok(())
 }
 
-// The order of the calls: the log is made, and of each commit length, payload and a closed gate are
-// written and synced, and then its gate is; and only then its reply is written.
+// The order of the calls: the log is made. Of the commits that are at hand lengths, payloads and a closed gate are written
+// and synced, and then the gate is; and only then their replies are written.
 #[test]
 fn commits_are_on_the_disk_before_they_are_acknowledged(rt: HostRuntime) -> Result<(), Fail> {
     let alloc = rt.alloc();
     let words = words(alloc, &["hsql", "demo"])?;
     let input = b"a: CREATE TABLE T (N BIGINT);a: INSERT INTO T VALUES (1);a: SELECT * FROM T;";
-    let mut host = Noting::new(alloc, host(alloc, input, b"", &[])?);
-    assert_eq!(rt; run(alloc, &words, &mut host), Status::Done);
-    let wanted = b"mlwcswsoiwswswswsoio";
-    assert_eq!(rt; host.calls.as_slice(), wanted.as_slice());
+    let mut at_once = Noting::new(alloc, host(alloc, input, b"", &[])?);
+    assert_eq!(rt; run(alloc, &words, &mut at_once), Status::Done);
+    assert_eq!(rt; at_once.calls.as_slice(), b"mlwcswsoiwswsoio".as_slice());
+    // entry by entry
+    let mut inner = host(alloc, input, b"", &[])?;
+    inner.give_in_pieces([29, 28, 19].to_vec(alloc)?);
+    let mut one_by_one = Noting::new(alloc, inner);
+    assert_eq!(rt; run(alloc, &words, &mut one_by_one), Status::Done);
+    assert_eq!(rt;
+        one_by_one.calls.as_slice(),
+        b"mlwcswsoiwswsoiwswsoioio".as_slice()
+    );
     Ok(())
 }
 
@@ -219,7 +227,7 @@ fn reads_may_bring_64_kib(rt: HostRuntime) -> Result<(), Fail> {
     let mut host = Noting::new(alloc, inner);
     assert_eq!(rt; run(alloc, &words, &mut host), Status::Done);
     let wanted =
-        b"opened at 0\n1 a: refused no such T\n2 a: refused not built\n3 a: refused no such T\nclosed at 0\n";
+        b"opened at 0\n1 a: refused no such T\n2 a: refused syntax at 2\n3 a: refused no such T\nclosed at 0\n";
     assert_eq!(rt; host.inner.output(), wanted.as_slice());
     for size in &host.read_sizes {
         assert!(rt; *size >= FULL, "a read may bring {size} bytes");
@@ -254,31 +262,29 @@ fn long_output_is_handed_over_in_parts(rt: HostRuntime) -> Result<(), Fail> {
     let mut last = b'm';
     for call in &host.calls {
         assert!(rt; last != b'o' || *call == b'i');
-        parts = match *call {
-            b'O' => parts.saturating_add(1),
-            b's' => 0,
-            _ => parts,
-        };
+        if *call == b'O' {
+            parts = parts.saturating_add(1);
+        }
         last = *call;
     }
-    // Behind the last commit, so of the answer.
-    assert!(rt; parts >= 2);
+    // One within the replies to INSERTs, and one with the answer.
+    assert_eq!(rt; parts, 2);
     Ok(())
 }
 
-// Where memory is wanted while the third commit is logged, before and behind its text, the replies of those before are handed
-// over, and no other.
+// Where memory is wanted while commits are logged, before and behind their bytes, the replies before them are handed over, and
+// no other.
 #[test]
 fn replies_are_handed_over_where_memory_is_wanted(rt: HostRuntime) -> Result<(), Fail> {
     let alloc = rt.alloc();
     let words = words(alloc, &["hsql", "demo"])?;
     let input =
-        b"a: CREATE TABLE T (N BIGINT);a: INSERT INTO T VALUES (1);a: INSERT INTO T VALUES (2);";
-    for wants_from in [17, 18, 19, 20] {
+        b"a: SELECT * FROM T;a: CREATE TABLE T (N BIGINT);a: SELECT * FROM T;a: INSERT INTO T VALUES (1);";
+    for wants_from in [9, 10, 11, 12] {
         let mut host = Noting::new(alloc, host(alloc, input, b"", &[])?);
         host.wants_from = wants_from;
         assert_eq!(rt; run(alloc, &words, &mut host), Status::NoMemory);
-        let wanted = b"opened at 0\n1 a: ok committed 1\n2 a: ok 1 row committed 2\n";
+        let wanted = b"opened at 0\n1 a: refused no such T\n";
         assert_eq!(rt; host.inner.output(), wanted.as_slice());
     }
     Ok(())
@@ -289,9 +295,9 @@ fn replies_are_handed_over_where_memory_is_wanted(rt: HostRuntime) -> Result<(),
 fn a_fault_of_the_output_is_told_where_memory_is_wanted(rt: HostRuntime) -> Result<(), Fail> {
     let alloc = rt.alloc();
     let words = words(alloc, &["hsql", "demo"])?;
-    let input = b"a: CREATE TABLE T (N BIGINT);a: INSERT INTO T VALUES (1);";
-    let mut host = Noting::new(alloc, host(alloc, input, b"", &[13])?);
-    host.wants_from = 13;
+    let input = b"a: SELECT * FROM T;a: CREATE TABLE T (N BIGINT);a: INSERT INTO T VALUES (1);";
+    let mut host = Noting::new(alloc, host(alloc, input, b"", &[9])?);
+    host.wants_from = 9;
     assert_eq!(rt; run(alloc, &words, &mut host), Status::OutputFault);
     Ok(())
 }

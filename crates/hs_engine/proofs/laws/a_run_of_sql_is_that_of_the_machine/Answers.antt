@@ -1,0 +1,8 @@
+use Rattle.hs_engine.proofs.Runs.{replied, told}
+use Rattle.hs_engine.proofs.laws.a_run_of_sql_is_that_of_the_machine.Goals as goal
+
+pub returns-clause-told : goal.returns-clause-told
+returns-clause-told c = told
+
+pub returns-clause-replied : goal.returns-clause-replied
+returns-clause-replied c = replied

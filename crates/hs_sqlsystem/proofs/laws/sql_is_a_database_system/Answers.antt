@@ -1,5 +1,0 @@
-use Rattle.hs_sqlsystem.specs.Meets.{sql_governed}
-use Rattle.hs_sqlsystem.proofs.laws.sql_is_a_database_system.Goals as goal
-
-pub returns : goal.returns
-returns c = sql_governed

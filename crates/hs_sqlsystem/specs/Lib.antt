@@ -1,4 +1,0 @@
-pub mod Conditions
-pub mod Tested
-pub mod Sql
-pub mod Meets
