@@ -14,7 +14,7 @@ needs cc
 cc -O2 -shared -fPIC -o "$work/refuse_alloc.so" "$top/checks/refuse_alloc.c" -ldl
 
 prefixes=0
-for ((number = 1; number < 1000; number++)); do
+for ((number = 1; number < 100000; number++)); do
     rm -f "$work"/db.*
     status=0
     REFUSE_AT=$number LD_PRELOAD="$work/refuse_alloc.so" "$program" "$work/db" \

@@ -5,9 +5,9 @@
 #
 # No contract can see whether the host over real files does sync what it says, and no test of the gate does. Here each
 # lock, write, cut and sync of the program, up to its end, must be the expected one: the log is locked; the folder is
-# synced once the files are made; a new log is written without its birth byte, synced, born, and synced; each commit is
-# written behind its closed gate, synced, its gate opened, and synced; and its reply is written behind that. It needs
-# `strace`.
+# synced once the files are made; a new log is written without its birth byte, synced, born, and synced. All entries are at
+# hand, so the three commits are written together behind the closed gate, synced, that gate opened, and synced; and what is
+# told is written behind that. It needs `strace`.
 # shellcheck source=checks/shared.sh
 . "$(dirname "$(readlink -f "$0")")/shared.sh"
 needs strace
@@ -34,23 +34,15 @@ fdatasync log
 pwrite log 1 at 0
 fdatasync log
 write output 12
-pwrite log 64 at 11
+pwrite log 149 at 11
 fdatasync log
 pwrite log 1 at 10
 fdatasync log
-pwrite log 42 at 75
-fdatasync log
-pwrite log 1 at 74
-fdatasync log
-pwrite log 43 at 117
-fdatasync log
-pwrite log 1 at 116
-fdatasync log
-write output 182
+write output 167
 write output 12
 END
 same "$(cat "$work/expected")" "$(cat "$work/seen")" "the calls"
 # Nothing that the patterns don't know was called.
 same "$(wc -l <"$work/seen")" "$(grep -c -v '^+++' "$work/calls")" "how many calls there were"
 
-done_with "every commit is synced twice before its reply is written"
+done_with "commits are synced twice before their replies are written"

@@ -34,7 +34,7 @@ while read -r crate; do
     done
 done < <(sed -n 's/^\([a-z_0-9]*\):.*/\1/p' crates.txt)
 # The table of run's clauses in MODEL has each of them, and README names no other.
-sed -n '/^pub fn run</,/^{/p' crates/hs_top/src/run_over.rt | sed -n 's/^    ensures \([a-z_]*\) .*/\1/p' | sort >"$work/clauses"
+sed -n '/^pub fn run</,/^{/p' crates/hs_top/src/program.rt | sed -n 's/^    ensures \([a-z_]*\) .*/\1/p' | sort >"$work/clauses"
 sed -n '/^## The clauses of /,/^## /p' docs/MODEL.md | sed -n "s/^| \`\([a-z_]*\)\` .*/\1/p" | sort >"$work/rows"
 same "$(cat "$work/clauses")" "$(cat "$work/rows")" "the clauses of run in MODEL"
 while read -r clause; do

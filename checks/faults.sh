@@ -4,8 +4,9 @@
 # usage: checks/faults.sh
 #
 # Each run must end with the status of that device, name it and the system's reason on standard error, and write a prefix of
-# its output. The next run must open at the last acknowledged commit, or one behind it, or further behind where the output
-# failed. A read or a write that a signal interrupts is no fault. It needs `strace`, which makes the calls fail.
+# its output. The next run must open at the last acknowledged commit, or up to three behind it, which are logged together, or
+# further behind where the output failed. A read or a write that a signal interrupts is no fault. It needs `strace`, which
+# makes the calls fail.
 # shellcheck source=checks/shared.sh
 . "$(dirname "$(readlink -f "$0")")/shared.sh"
 needs strace
@@ -46,7 +47,7 @@ each_fails() {
             [ "$status" = "$wanted" ] || fail "$call $number failed over $beginning, and the status is $status"
             grep -qxE "hsql: $message: Input/output error" errors || fail "$call $number failed over $beginning, and standard error has '$(cat errors)'"
             cmp -s <(head -c "$(wc -c <output)" "$beginning.out") output || fail "$call $number failed over $beginning, and the output is no prefix of the expected one"
-            "$opens" "$work/db" output "$call $number failed over $beginning" "$(<"$beginning.commits")"
+            "$opens" "$work/db" output "$call $number failed over $beginning" "$(<"$beginning.commits")" 3
             pass
         done
     done

@@ -26,13 +26,13 @@ answered one_line '1 a: ok committed 1
 3 b: ok 0 rows' < <(printf '%s%sb: SELECT * FROM T;' "$create" "$create")
 answered byte_order_mark '1 -: refused entry
 2 a: ok committed 1' < <(printf '\xef\xbb\xbf%s\n%s\n' "$create" "$create")
-answered zero_bytes '1 a: refused not built
+answered zero_bytes '1 a: refused syntax at 10
 2 -: refused entry
 3 a: ok committed 1' < <(printf 'a: CREATE \0TABLE T (N BIGINT);\0\0;%s\n' "$create")
 answered no_utf8 '1 -: refused entry
 2 a: ok committed 1' < <(printf 'a: SELECT * FROM \xe9;\n%s\n' "$create")
 answered other_letters '1 -: refused entry
-2 a: refused not built
+2 a: refused syntax at 17
 3 a: ok committed 1' < <(printf 'é: SELECT * FROM T;\na: SELECT * FROM É;\n%s\n' "$create")
 answered open_text '1 a: ok committed 1
 2 -: refused entry' < <(printf '%s\na: SELECT '"'"'x;\na: SELECT * FROM T;\n' "$create")
@@ -44,7 +44,7 @@ answered no_end '1 a: ok committed 1
 # Any bytes at all: each entry has one answer, and nothing else is written.
 head -c 1000000 /dev/urandom >bytes
 ended 0 "" "$program" bytes_of_any_kind <bytes >output
-same "" "$(sed -e 1d -e '$d' output | grep -vE '^[0-9]+ (-: refused (entry|too long)|[A-Za-z][A-Za-z0-9_]*: refused not built)$')" "the answers over any bytes"
+same "" "$(sed -e 1d -e '$d' output | grep -vE '^[0-9]+ (-: refused (entry|too long)|[A-Za-z][A-Za-z0-9_]*: refused syntax at [0-9]+)$')" "the answers over any bytes"
 same "opened at 0 closed at 0" "$(sed -n -e 1p -e '$p' output | tr '\n' ' ' | sed 's/ $//')" "the first and the last line over any bytes"
 
 # More sessions than a run has.

@@ -56,13 +56,13 @@ opens_behind() {
     [ "$opened" -ge "$acknowledged" ] || fail "$3: commit $acknowledged was acknowledged, and the next run opened at $opened"
 }
 
-# opens_close NAME OUTPUT WHAT [BEFORE]: the same, and the next run opens one commit behind the last acknowledged one at most,
-# or behind those that were there before (default: 0).
+# opens_close NAME OUTPUT WHAT [BEFORE [MORE]]: the same, and the next run opens so many commits (default: 1) behind the last
+# acknowledged one at most, or behind those that were there before (default: 0).
 opens_close() {
     local last
     opens_behind "$1" "$2" "$3"
     last=$((acknowledged > ${4:-0} ? acknowledged : ${4:-0}))
-    [ "$opened" -le $((last + 1)) ] || fail "$3: the last commit that was acknowledged is $last, and the next run opened at $opened"
+    [ "$opened" -le $((last + ${5:-1})) ] || fail "$3: the last commit that was acknowledged is $last, and the next run opened at $opened"
 }
 
 # done_with WHAT: the last line of a check, which checks/all counts by.
