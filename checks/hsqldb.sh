@@ -1,0 +1,42 @@
+#!/usr/bin/env bash
+# Gives the same scripts to the built program and to HSQLDB 2.7, and compares the answer to each entry: the rows and their
+# order, the counts, what is refused, and who waits for whom, until when, and what it sees then.
+#
+# usage: checks/hsqldb.sh [SCRIPTS..]      (default: the files of checks/hsqldb)
+#
+# HSQLDB runs in memory under LOCKS, with a connection and a thread for each session, and gets each statement as a text. Where
+# the two are known to differ the scripts say so, with both answers, and docs/SQL.md says why. So a difference that isn't
+# listed fails, and a listed one that is none. A refusal's kind counts where both have one for it.
+#
+# It needs a JDK and Debian's package libhsqldb-java. The jar is looked for in the folder JARS (/usr/share/java if not set).
+# Where one of these isn't there it says so and ends with 77, by which checks/all knows that it was left out.
+# shellcheck source=checks/shared.sh
+. "$(dirname "$(readlink -f "$0")")/shared.sh"
+jar=${JARS:-/usr/share/java}/hsqldb.jar
+left_out() {
+    echo "$check: left out: $1"
+    exit 77
+}
+command -v javac >/dev/null || left_out "javac isn't there"
+[ -e "$jar" ] || left_out "$jar isn't there (Debian's package libhsqldb-java)"
+scripts=()
+for script in "$@"; do
+    scripts+=("$(readlink -f "$script")")
+done
+if [ $# -eq 0 ]; then
+    scripts=("$top"/checks/hsqldb/*.txt)
+fi
+program=$(readlink -f "$program")
+cd "$work"
+mkdir run
+
+# The reasons are the first words of the rows of the document's table.
+sed -n '/^## For people who come from HSQLDB/,/^## [^F]/p' "$top/docs/SQL.md" | sed -n 's/^| \([^|]*[^ |]\) *|.*/\1/p' | tail -n +2 >reasons
+javac -d classes "$top"/checks/hsqldb/*.java
+java "-Djava.io.tmpdir=$work" -Dhsqldb.reconfig_logging=false -cp "classes:$jar" Compare "$program" "$work/run" reasons "${scripts[@]}" >compared || {
+    sed '$d' compared >&2
+    fail "the answers aren't as the scripts say"
+}
+read -r passed count differences version < <(tail -n 1 compared)
+same "" "$(ls run | grep -v put)" "what the runs left"
+done_with "answers to $count scripts as HSQLDB $version has them, but for $differences differences that are listed"
