@@ -9,16 +9,20 @@
 # listed fails, and a listed one that is none. A refusal's kind counts where both have one for it.
 #
 # It needs a JDK and Debian's package libhsqldb-java. The jar is looked for in the folder JARS (/usr/share/java if not set).
-# Where one of these isn't there it says so and ends with 77, by which checks/all knows that it was left out.
+# Where one of these isn't there it says so and fails, but by checks/all it is left out.
 # shellcheck source=checks/shared.sh
 . "$(dirname "$(readlink -f "$0")")/shared.sh"
 jar=${JARS:-/usr/share/java}/hsqldb.jar
-left_out() {
-    echo "$check: left out: $1"
-    exit 77
+
+# lacks WHAT: ends the check, as one that failed or as one that was left out.
+lacks() {
+    [ -n "${LEAVE_OUT:-}" ] || fail "$1"
+    done_with "left out: $1"
+    exit 0
 }
-command -v javac >/dev/null || left_out "javac isn't there"
-[ -e "$jar" ] || left_out "$jar isn't there (Debian's package libhsqldb-java)"
+
+command -v javac >/dev/null || lacks "javac is missing"
+[ -e "$jar" ] || lacks "$jar isn't there, which Debian's package libhsqldb-java has"
 scripts=()
 for script in "$@"; do
     scripts+=("$(readlink -f "$script")")
@@ -38,5 +42,4 @@ java "-Djava.io.tmpdir=$work" -Dhsqldb.reconfig_logging=false -cp "classes:$jar"
     fail "the answers aren't as the scripts say"
 }
 read -r passed count differences version < <(tail -n 1 compared)
-same "" "$(ls run | grep -v put)" "what the runs left"
 done_with "answers to $count scripts as HSQLDB $version has them, but for $differences differences that are listed"
