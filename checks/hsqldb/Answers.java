@@ -7,9 +7,9 @@ final class Answers {
     private final TreeMap<Integer, String> byEntry = new TreeMap<>();
     private final TreeMap<Integer, String> waits = new TreeMap<>();
 
-    /** The entry has begun to wait for these sessions. */
+    /** The entry waits for these sessions. Those for which it began to wait count. */
     void waits(int entry, String sessions) {
-        waits.put(entry, sessions);
+        waits.putIfAbsent(entry, sessions);
     }
 
     boolean waited(int entry) {

@@ -167,7 +167,7 @@ final class Hsqldb implements AutoCloseable {
             boolean isSettled = busy.stream().allMatch(session -> waits.containsKey(session) && !session.answer.isDone());
             String now = isSettled ? waits.toString() : "";
             if (isSettled && now.equals(before)) {
-                busy.stream().filter(session -> !answers.waited(session.entry.number)).forEach(session -> answers.waits(session.entry.number, waits.get(session)));
+                busy.forEach(session -> answers.waits(session.entry.number, waits.get(session)));
                 return;
             }
             before = now;
