@@ -14,10 +14,21 @@ const FIRST: &[u8] =
 // A log of two commits, by two sessions.
 const TWO: &[u8] = b"a: CREATE TABLE T (N BIGINT);b: INSERT INTO T VALUES (7);";
 
+// Longer than any input.
+const WHOLE: [usize; 1] = [100_000];
+
 // The calls of the host in a run, by their devices: the disk, the output and the input. A log that is born and short is
 // looked at by two calls, read by two, and synced, cut and synced again, which are as many as a new one takes. The two
 // commits of the input are written together.
 const CALLS: &str = "DDDDDDDOIDDDDOIO";
+
+// Four sessions, entry by entry. The transaction of b holds c and d up, so that the insert of d is committed with it.
+const FOUR: &[u8] =
+    b"a: CREATE TABLE T (ID INTEGER PRIMARY KEY, V INTEGER);b: START TRANSACTION;b: INSERT INTO T VALUES (1,10);c: SELECT V FROM T;d: INSERT INTO T VALUES (2,20);b: COMMIT;a: DELETE FROM T WHERE ID = 1;";
+
+const FOUR_PIECES: [usize; 7] = [54, 21, 31, 19, 31, 10, 30];
+
+const FOUR_CALLS: &str = "DDDDDDDOIDDDDOIOIOIOIOIDDDDOIDDDDOIO";
 
 // As many bytes as ` committed 1/` has.
 const END_BYTES: usize = 13;
@@ -40,60 +51,85 @@ fn acknowledged(text: &[u8]) -> u32 {
     count
 }
 
-// Each call fails in turn of a run with two commits over a log that has so many: the status is that device's, a
-// prefix of the output is written, and the log that is left opens before both commits or behind both, as they are behind
-// one gate, and not before one that was acknowledged.
-fn each_call_fails(
-    rt: &impl Abort,
-    alloc: Global,
-    input: &[u8],
-    log: &[u8],
-    commits: u32,
-    calls: &str,
-) -> Result<(), Fail> {
-    let whole = shown(alloc, input, 100_000, log, &[])?;
-    assert_eq!(rt; acknowledged(&whole.text), 2);
-    for (call, device) in calls.bytes().enumerate() {
-        let run = shown(alloc, input, 100_000, log, &[call as u64])?;
+// A run whose calls are to fail: its input in pieces, the log before it, the calls, and at how many commits a log opens that
+// it may leave.
+#[derive(Clone, Copy)]
+struct Failing<'a> {
+    input: &'a [u8],
+    pieces: &'a [usize],
+    log: &'a [u8],
+    calls: &'a str,
+    opens: &'a [u32],
+}
+
+// Each call fails in turn: the status is that device's, a prefix of the output is written, and the log that is left opens
+// where it may, and not before a commit that was acknowledged. Commits behind one gate are all there or none.
+fn each_call_fails(rt: &impl Abort, alloc: Global, run: &Failing<'_>) -> Result<(), Fail> {
+    let whole = shown(alloc, run.input, run.pieces, run.log, &[])?;
+    let commits = run.opens.first().copied().unwrap_or(0);
+    for (call, device) in run.calls.bytes().enumerate() {
+        let failed = shown(alloc, run.input, run.pieces, run.log, &[call as u64])?;
         let wanted = match device {
             b'D' => Status::DiskFault,
             b'O' => Status::OutputFault,
             _ => Status::InputFault,
         };
-        assert_eq!(rt; run.status, wanted, "at call {call}");
-        assert!(rt; whole.text.starts_with(&run.text), "at call {call}");
-        let again = shown(alloc, b"", 100_000, &run.log, &[])?;
+        assert_eq!(rt; failed.status, wanted, "at call {call}");
+        assert!(rt; whole.text.starts_with(&failed.text), "at call {call}");
+        let again = shown(alloc, b"", &WHOLE, &failed.log, &[])?;
         assert_eq!(rt; again.status, Status::Done, "at call {call}");
         let opened = match again.text.get(10) {
             Some(digit) => u32::from(*digit).saturating_sub(48),
             None => 9,
         };
-        let least = commits.saturating_add(acknowledged(&run.text));
+        let least = commits.saturating_add(acknowledged(&failed.text));
         assert!(rt; least <= opened, "at call {call}");
-        assert!(rt;
-            opened == commits || opened == commits.saturating_add(2),
-            "at call {call}"
-        );
+        assert!(rt; run.opens.contains(&opened), "at call {call}");
     }
-    let past = calls.len() as u64;
-    let run = shown(alloc, input, 100_000, log, &[past])?;
-    assert_eq!(rt; run.status, Status::Done);
+    let past = run.calls.len() as u64;
+    let last = shown(alloc, run.input, run.pieces, run.log, &[past])?;
+    assert_eq!(rt; last.status, Status::Done);
     Ok(())
 }
 
 #[test]
 fn failing_calls(rt: HostRuntime) -> Result<(), Fail> {
-    each_call_fails(&rt, rt.alloc(), TWO, b"", 0, CALLS)
+    let run = Failing {
+        input: TWO,
+        pieces: &WHOLE,
+        log: b"",
+        calls: CALLS,
+        opens: &[0, 2],
+    };
+    each_call_fails(&rt, rt.alloc(), &run)
 }
 
 // The first example's log, with a part of a group behind its closed gate.
 #[test]
 fn failing_calls_over_a_torn_log(rt: HostRuntime) -> Result<(), Fail> {
     let alloc = rt.alloc();
-    let mut log = shown(alloc, FIRST, 100_000, b"", &[])?.log;
+    let mut log = shown(alloc, FIRST, &WHOLE, b"", &[])?.log;
     log.extend_from_slice(b"\0\0\0\0\0\0\0\x22INSERT INTO T")?;
-    let input = b"a: INSERT INTO T VALUES (3,3);b: INSERT INTO T VALUES (4,4);";
-    each_call_fails(&rt, alloc, input, &log, 3, CALLS)
+    let run = Failing {
+        input: b"a: INSERT INTO T VALUES (3,3);b: INSERT INTO T VALUES (4,4);",
+        pieces: &WHOLE,
+        log: &log,
+        calls: CALLS,
+        opens: &[3, 5],
+    };
+    each_call_fails(&rt, alloc, &run)
+}
+
+#[test]
+fn failing_calls_of_four_sessions(rt: HostRuntime) -> Result<(), Fail> {
+    let run = Failing {
+        input: FOUR,
+        pieces: &FOUR_PIECES,
+        log: b"",
+        calls: FOUR_CALLS,
+        opens: &[0, 1, 3, 4],
+    };
+    each_call_fails(&rt, rt.alloc(), &run)
 }
 
 // Files of another program: nothing is changed and nothing written.

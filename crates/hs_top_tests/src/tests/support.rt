@@ -35,19 +35,17 @@ pub struct Ended {
     pub log: Vec<u8>,
 }
 
-/// A run over this input, given in pieces of so many bytes, and over this log.
+/// A run over this input, given in pieces of so many bytes in turn, and over this log.
 pub fn shown(
     alloc: Global,
     input: &[u8],
-    piece: usize,
+    pieces: &[usize],
     log: &[u8],
     failing: &[u64],
 ) -> Result<Ended, AllocError> {
     let words = words(alloc, &["hsql", "demo"])?;
     let mut host = host(alloc, input, log, failing)?;
-    let mut lengths = Vec::new(alloc);
-    lengths.push(piece)?;
-    host.give_in_pieces(lengths);
+    host.give_in_pieces(pieces.to_vec(alloc)?);
     let status = run(alloc, &words, &mut host);
     let mut text = host.output().to_vec(alloc)?;
     for byte in &mut text {
