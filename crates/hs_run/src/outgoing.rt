@@ -18,6 +18,12 @@ use hs_log::Log;
 /// How many bytes of output are gathered before they are handed over.
 const MOST_TOLD: usize = 65_536;
 
+/// How many bytes the texts of commits have at most that are gathered before they are logged.
+const MOST_MADE: u64 = 0x10_0000;
+
+/// How many bytes of a group stand before its text.
+const HEAD_BYTES: u64 = 9;
+
 /// What goes out of a run: what is gathered, how many bytes of it tell of nothing that isn't logged, and the log.
 #[derive(Drop)]
 pub struct Outgoing {
@@ -96,14 +102,21 @@ impl Outgoing {
         }
     }
 
-    /// Hands over what is gathered, where it is 64 KiB or more.
+    // Whether the texts of the commits that are gathered have more bytes than may be kept.
+    fn is_full(&self) -> bool {
+        let made = &self.gathered.made;
+        let heads = made.count().saturating_mul(HEAD_BYTES);
+        made.spelled().len() as u64 > MOST_MADE.saturating_add(heads)
+    }
+
+    /// Hands over what is gathered, where it is 64 KiB or more, or the texts of the commits behind it are more than 2^20 bytes.
     pub fn hand_over_when_large<H: Host>(&mut self, host: &mut H) -> Result<(), Stop>
         requires serving { IsServing H.Source H.Host.own self.old host.old }
         ensures short { IsErrOf result Stop.TooLong → ⊥ }
         ensures hands { HandsOn H.Source H.Host.own self.old host.old self.new host.new result }
         ensures unread { H.unread host.new ≡ H.unread host.old }
     {
-        if self.gathered.told.len() < MOST_TOLD {
+        if self.gathered.told.len() < MOST_TOLD && !self.is_full() {
             return Ok(());
         }
         self.hand_over(host)
