@@ -213,6 +213,31 @@ fn commits_are_on_the_disk_before_they_are_acknowledged(rt: HostRuntime) -> Resu
     Ok(())
 }
 
+// Commits whose texts have more than 2^20 bytes are logged, and what is told of them is handed over, before further
+// entries that are at hand are attempted. Here each INSERT but the first doubles the rows, of some 3,900 bytes, and so the
+// texts: those of ten INSERTs are more.
+#[test]
+fn commits_are_logged_once_their_texts_are_long(rt: HostRuntime) -> Result<(), Fail> {
+    let alloc = rt.alloc();
+    let words = words(alloc, &["hsql", "demo"])?;
+    let filling = vec![in alloc; b'x'; 3_900]?;
+    let mut input = b"a: CREATE TABLE T (S VARCHAR(4000));a: INSERT INTO T VALUES ('".to_vec(
+        alloc,
+    )?;
+    input.extend_from_slice(&filling)?;
+    input.extend_from_slice(b"');")?;
+    for _ in 0..9u32 {
+        input.extend_from_slice(b"a: INSERT INTO T SELECT S FROM T;")?;
+    }
+    input.extend_from_slice(b"a: DELETE FROM T;")?;
+    let mut host = Noting::new(alloc, host(alloc, &input, b"", &[])?);
+    assert_eq!(rt; run(alloc, &words, &mut host), Status::Done);
+    // long texts are written in parts
+    host.calls.retain(|call| *call != b'w');
+    assert_eq!(rt; host.calls.as_slice(), b"mlcssoissossoio".as_slice());
+    Ok(())
+}
+
 // Also in the middle of an entry a read may bring 64 KiB.
 #[test]
 fn reads_may_bring_64_kib(rt: HostRuntime) -> Result<(), Fail> {
