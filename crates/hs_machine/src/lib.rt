@@ -1,5 +1,5 @@
-//! The machine that the program is, as definitions: its lines, its replies, its turns, its transcript, and which
-//! commits an output acknowledges. It knows nothing of hosts and takes no memory.
+//! Which commits an output acknowledges, of which the contracts of a run speak; and machines of one turn for each item, as
+//! definitions: lines, replies, turns, a transcript. It knows nothing of hosts and takes no memory.
 #![tactic(auto)]
 
 mod laws;
