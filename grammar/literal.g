@@ -172,14 +172,15 @@ added : COLUMN column #add_column | table_constraint #add_constraint
 ## drop = DROP TABLE name | DROP INDEX name
 drop : DROP dropped
 dropped : TABLE name #drop_table | INDEX name #drop_index
-## set = SET DATABASE TRANSACTION CONTROL LOCKS | SET DATABASE DEFAULT ISOLATION LEVEL ( READ COMMITTED | SERIALIZABLE )
+## set = SET DATABASE TRANSACTION CONTROL ( LOCKS | MVLOCKS | MVCC )
+##   | SET DATABASE DEFAULT ISOLATION LEVEL ( READ COMMITTED | SERIALIZABLE )
 ##   | SET AUTOCOMMIT ( TRUE | FALSE ) | SET TRANSACTION modes | SET SESSION CHARACTERISTICS AS TRANSACTION modes
 ##   | SET FILES WRITE DELAY FALSE
 set : SET setting
 setting : DATABASE database_setting | AUTOCOMMIT truth | TRANSACTION modes #set_transaction
   | SESSION CHARACTERISTICS AS TRANSACTION modes #set_characteristics | FILES WRITE DELAY write_delay
 database_setting : TRANSACTION CONTROL control | DEFAULT ISOLATION LEVEL default_level
-control : LOCKS #control_locks | !MVLOCKS | !MVCC
+control : LOCKS #control_locks | MVLOCKS #control_mvlocks | MVCC #control_mvcc
 default_level : READ default_committed | SERIALIZABLE #default_serializable
 default_committed : COMMITTED #default_read_committed | !UNCOMMITTED
 truth : TRUE #autocommit_true | FALSE #autocommit_false

@@ -390,6 +390,8 @@ rule database_setting : puts x : Stmt ; with_statement x p ; (a b : List Token) 
   | DEFAULT ISOLATION LEVEL default_level => λ a b v w. s4 _ _ _ _ _ v w w1 w2 w3
 rule control : puts x : Stmt ; with_statement x p ; (a b c d : List Token) → T.Word text class.SET a b → T.Word text class.DATABASE b c → T.Word text class.TRANSACTION c d → T.Word text class.CONTROL d rest → Z.SpellsStatement text x a r
   | LOCKS #control_locks => λ a b c d v w x y. Z.set_locks v w x y w1
+  | MVLOCKS #control_mvlocks => λ a b c d v w x y. Z.set_mvlocks v w x y w1
+  | MVCC #control_mvcc => λ a b c d v w x y. Z.set_mvcc v w x y w1
 rule default_level : puts x : Stmt ; with_statement x p ; (a b c d e : List Token) → T.Word text class.SET a b → T.Word text class.DATABASE b c → T.Word text class.DEFAULT c d → T.Word text class.ISOLATION d e → T.Word text class.LEVEL e rest → Z.SpellsStatement text x a r
   | READ default_committed => λ a b c d e v w x y z. s2 _ _ _ _ _ _ v w x y z w1
   | SERIALIZABLE #default_serializable => λ a b c d e v w x y z. Z.default_serializable v w x y z w1

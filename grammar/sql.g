@@ -148,8 +148,8 @@
 #   #modes              -> modes               none written
 #   #read_committed #repeatable_read #serializable #read_only #read_write  modes -> modes
 #   #start_transaction #set_transaction #set_characteristics  modes -> statement
-#   #commit #rollback #autocommit_true #autocommit_false #write_delay_false #control_locks
-#   #default_read_committed #default_serializable  -> statement
+#   #commit #rollback #autocommit_true #autocommit_false #write_delay_false
+#   #control_locks #control_mvlocks #control_mvcc #default_read_committed #default_serializable  -> statement
 #   #savepoint #rollback_to #release_savepoint  name -> statement
 # ---------------------------------------------------------------------------------------------------------------------
 
@@ -374,6 +374,8 @@ marks
   #autocommit_false Session(SessionMark::Autocommit(false))
   #write_delay_false Session(SessionMark::WriteDelayFalse)
   #control_locks Session(SessionMark::Control(TransactionControl::Locks))
+  #control_mvlocks Session(SessionMark::Control(TransactionControl::MvLocks))
+  #control_mvcc Session(SessionMark::Control(TransactionControl::Mvcc))
   #default_read_committed Session(SessionMark::DefaultLevel(Isolation::ReadCommitted))
   #default_serializable Session(SessionMark::DefaultLevel(Isolation::Serializable))
   #savepoint Session(SessionMark::Savepoint)
@@ -529,7 +531,7 @@ set : SET setting
 setting : DATABASE database_setting | AUTOCOMMIT truth | TRANSACTION modes #set_transaction
   | SESSION CHARACTERISTICS AS TRANSACTION modes #set_characteristics | FILES WRITE DELAY write_delay
 database_setting : TRANSACTION CONTROL control | DEFAULT ISOLATION LEVEL default_level
-control : LOCKS #control_locks | !MVLOCKS | !MVCC
+control : LOCKS #control_locks | MVLOCKS #control_mvlocks | MVCC #control_mvcc
 default_level : READ default_committed | SERIALIZABLE #default_serializable
 default_committed : COMMITTED #default_read_committed | !UNCOMMITTED
 truth : TRUE #autocommit_true | FALSE #autocommit_false

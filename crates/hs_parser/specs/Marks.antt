@@ -226,4 +226,6 @@ steps =
     mark.Function (f.Aggregate Aggregate.Count) ∷  -- count
     mark.Expression e.Bracket ∷  -- bracket
     mark.Expression e.BodySubquery ∷  -- body_subquery
+    mark.Session (s.Control TransactionControl.MvLocks) ∷  -- control_mvlocks
+    mark.Session (s.Control TransactionControl.Mvcc) ∷  -- control_mvcc
     []

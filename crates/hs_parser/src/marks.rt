@@ -8,7 +8,7 @@ use hs_builder::{
     SessionMark,
 };
 
-pub const MARKS: [Mark; 200] = [
+pub const MARKS: [Mark; 202] = [
     Mark::Change(ChangeMark::QueryStatement),
     Mark::Session(SessionMark::Modes),
     Mark::Session(SessionMark::Start),
@@ -209,4 +209,6 @@ pub const MARKS: [Mark; 200] = [
     Mark::Function(FunctionMark::Aggregate(Aggregate::Count)),
     Mark::Expression(ExpressionMark::Bracket),
     Mark::Expression(ExpressionMark::BodySubquery),
+    Mark::Session(SessionMark::Control(TransactionControl::MvLocks)),
+    Mark::Session(SessionMark::Control(TransactionControl::Mvcc)),
 ];

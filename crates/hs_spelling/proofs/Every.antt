@@ -8,7 +8,7 @@ use Rattle.hs_spelling.proofs.Productions3.{production_120, production_121, prod
 use Rattle.hs_spelling.proofs.Productions4.{production_180, production_181, production_182, production_183, production_184, production_185, production_186, production_187, production_188, production_189, production_190, production_191, production_192, production_193, production_194, production_195, production_196, production_197, production_198, production_199, production_200, production_201, production_202, production_203, production_204, production_205, production_206, production_207, production_208, production_209, production_210, production_211, production_212, production_213, production_214, production_215, production_216, production_217, production_218, production_219, production_220, production_221, production_222, production_223, production_224, production_225, production_226, production_227, production_228, production_229, production_230, production_231, production_232, production_233, production_234, production_235, production_236, production_237, production_238, production_239}
 use Rattle.hs_spelling.proofs.Productions5.{production_240, production_241, production_242, production_243, production_244, production_245, production_246, production_247, production_248, production_249, production_250, production_251, production_252, production_253, production_254, production_255, production_256, production_257, production_258, production_259, production_260, production_261, production_262, production_263, production_264, production_265, production_266, production_267, production_268, production_269, production_270, production_271, production_272, production_273, production_274, production_275, production_276, production_277, production_278, production_279, production_280, production_281, production_282, production_283, production_284, production_285, production_286, production_287, production_288, production_289, production_290, production_291, production_292, production_293, production_294, production_295, production_296, production_297, production_298, production_299}
 use Rattle.hs_spelling.proofs.Productions6.{production_300, production_301, production_302, production_303, production_304, production_305, production_306, production_307, production_308, production_309, production_310, production_311, production_312, production_313, production_314, production_315, production_316, production_317, production_318, production_319, production_320, production_321, production_322, production_323, production_324, production_325, production_326, production_327, production_328, production_329, production_330, production_331, production_332, production_333, production_334, production_335, production_336, production_337, production_338, production_339, production_340, production_341, production_342, production_343, production_344, production_345, production_346, production_347, production_348, production_349, production_350, production_351, production_352, production_353, production_354, production_355, production_356, production_357, production_358, production_359}
-use Rattle.hs_spelling.proofs.Productions7.{production_360, production_361, production_362, production_363, production_364, production_365, production_366, production_367}
+use Rattle.hs_spelling.proofs.Productions7.{production_360, production_361, production_362, production_363, production_364, production_365, production_366, production_367, production_368, production_369}
 
 abbrev pub Every : List ℕ → List Production → Type 1
 Every text [] = Unit {1}
@@ -752,7 +752,13 @@ module _ (text : List ℕ) where
                                                                                                                                                                                                                                                                                                                                                                                                                                                                                                                                                                                                                                                                                                                                                                 production_366 text,
                                                                                                                                                                                                                                                                                                                                                                                                                                                                                                                                                                                                                                                                                                                                                                 (
                                                                                                                                                                                                                                                                                                                                                                                                                                                                                                                                                                                                                                                                                                                                                                   production_367 text,
-                                                                                                                                                                                                                                                                                                                                                                                                                                                                                                                                                                                                                                                                                                                                                                  tt,
+                                                                                                                                                                                                                                                                                                                                                                                                                                                                                                                                                                                                                                                                                                                                                                  (
+                                                                                                                                                                                                                                                                                                                                                                                                                                                                                                                                                                                                                                                                                                                                                                    production_368 text,
+                                                                                                                                                                                                                                                                                                                                                                                                                                                                                                                                                                                                                                                                                                                                                                    (
+                                                                                                                                                                                                                                                                                                                                                                                                                                                                                                                                                                                                                                                                                                                                                                      production_369 text,
+                                                                                                                                                                                                                                                                                                                                                                                                                                                                                                                                                                                                                                                                                                                                                                      tt,
+                                                                                                                                                                                                                                                                                                                                                                                                                                                                                                                                                                                                                                                                                                                                                                    ),
+                                                                                                                                                                                                                                                                                                                                                                                                                                                                                                                                                                                                                                                                                                                                                                  ),
                                                                                                                                                                                                                                                                                                                                                                                                                                                                                                                                                                                                                                                                                                                                                                 ),
                                                                                                                                                                                                                                                                                                                                                                                                                                                                                                                                                                                                                                                                                                                                                               ),
                                                                                                                                                                                                                                                                                                                                                                                                                                                                                                                                                                                                                                                                                                                                                             ),

@@ -201,6 +201,8 @@ pub data SpellsStatement (text : List ℕ) : Stmt → List Token → List Token 
   drop_table : {n : Identifier} {a b c d : List Token} → Word text class.DROP a b → Word text class.TABLE b c → Name text n c d → SpellsStatement text (s.DropTable n) a d
   drop_index : {n : Identifier} {a b c d : List Token} → Word text class.DROP a b → Word text class.INDEX b c → Name text n c d → SpellsStatement text (s.DropIndex n) a d
   set_locks : {a b c d e f : List Token} → Word text class.SET a b → Word text class.DATABASE b c → Word text class.TRANSACTION c d → Word text class.CONTROL d e → Word text class.LOCKS e f → SpellsStatement text (s.SetControl control.Locks) a f
+  set_mvlocks : {a b c d e f : List Token} → Word text class.SET a b → Word text class.DATABASE b c → Word text class.TRANSACTION c d → Word text class.CONTROL d e → Word text class.MVLOCKS e f → SpellsStatement text (s.SetControl control.MvLocks) a f
+  set_mvcc : {a b c d e f : List Token} → Word text class.SET a b → Word text class.DATABASE b c → Word text class.TRANSACTION c d → Word text class.CONTROL d e → Word text class.MVCC e f → SpellsStatement text (s.SetControl control.Mvcc) a f
   default_read_committed : {a b c d e f g h : List Token} → Word text class.SET a b → Word text class.DATABASE b c → Word text class.DEFAULT c d → Word text class.ISOLATION d e → Word text class.LEVEL e f → Word text class.READ f g → Word text class.COMMITTED g h → SpellsStatement text (s.SetDefaultLevel isolation.ReadCommitted) a h
   default_serializable : {a b c d e f g : List Token} → Word text class.SET a b → Word text class.DATABASE b c → Word text class.DEFAULT c d → Word text class.ISOLATION d e → Word text class.LEVEL e f → Word text class.SERIALIZABLE f g → SpellsStatement text (s.SetDefaultLevel isolation.Serializable) a g
   autocommit_on : {a b c d : List Token} → Word text class.SET a b → Word text class.AUTOCOMMIT b c → Word text class.TRUE c d → SpellsStatement text (s.SetAutocommit true) a d

@@ -451,6 +451,8 @@ all_runs =
     (take (take (by 262 (claimed 0 (both (finish 0) (no))))) ∷ []) ∷
     (take (take (take (by 263 (claimed 0 (both (finish 0) (no)))))) ∷ []) ∷
     (take (take (by 264 (finish 0))) ∷ []) ∷
+    (take (take (by 265 (finish 0))) ∷ []) ∷
+    (take (take (by 266 (finish 0))) ∷ []) ∷
     (take (by 267 (claimed 0 (both (finish 0) (no)))) ∷ []) ∷
     (take (take (by 268 (finish 0))) ∷ []) ∷
     (take (take (by 269 (finish 0))) ∷ []) ∷
@@ -572,8 +574,6 @@ refusal_runs =
     (by 38 (finish 0) ∷ []) ∷
     (by 192 (finish 0) ∷ []) ∷
     (by 243 (finish 0) ∷ []) ∷
-    (by 265 (finish 0) ∷ []) ∷
-    (by 266 (finish 0) ∷ []) ∷
     (by 270 (finish 0) ∷ []) ∷
     (by 274 (finish 0) ∷ []) ∷
     (by 421 (finish 0) ∷ []) ∷

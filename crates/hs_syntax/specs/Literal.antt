@@ -7,7 +7,7 @@ use Rattle.hs_grammar.specs.declared.types.Item.{Item}
 use Rattle.hs_grammar.specs.declared.types.Item.TheVariants as item
 use Rattle.hs_grammar.specs.Grammar.{Extent, whole, refused, tokens_of}
 use Rattle.hs_syntax.specs.Marks as m
-use Rattle.hs_syntax.specs.Names.{statement, CHECKPOINT, SHUTDOWN, committed, UNCOMMITTED, created, CACHED, type, BLOB, VARBINARY, control, MVLOCKS, MVCC, default_committed, write_delay, number_0, identifier, left_parenthesis, start, semicolon, semicolon_mark, query, insert, update, delete, lock, create, alter, drop, set, START, TRANSACTION, start_modes, COMMIT, work, ROLLBACK, rollback, SAVEPOINT, name, RELEASE, WORK, TO, mode, modes_more, modes, comma, ISOLATION, LEVEL, level, READ, access, ONLY, WRITE, REPEATABLE, SERIALIZABLE, COMMITTED, ACTION, AUTOCOMMIT, CHARACTERISTICS, CONTROL, DATABASE, DELAY, FILES, KEY, LOCKS, MEMORY, SESSION, names, names_more, number, fraction, text, digit_text, other_text, literal, TRUE, FALSE, NULL, DATE, TIMESTAMP, body, ordering, limiting, ORDER, BY, keys, key, keys_more, LIMIT, limit, number_1, above, offset, OFFSET, term, body_more, UNION, union, EXCEPT, ALL, core, term_more, INTERSECT, SELECT, select, VALUES, rows, right_parenthesis, distinct, items, FROM, froms, where_part, group, having, DISTINCT, star, item, items_more, from, froms_more, WHERE, e, GROUP, group_more, HAVING, es, es_more, row, rows_more, alias, AS, table, joins, INNER, JOIN, ON, LEFT, outer, CROSS, OUTER, as_part, direction, ASC, DESC, INSERT, INTO, source, contents, tuples, inserted_query, tuple, tuples_more, tuple_value, values_more, DEFAULT, query_tail, rows_of_values, behind_rows, row_of_values, rows_of_values_more, row_of_values_more, ordered, UPDATE, SET, pair, pairs_more, update_where, equal, value, DELETE, delete_where, LOCK, TABLE, claim, claims_more, claimed, CREATE, table_definition, INDEX, element, elements_more, column, table_constraint, default, column_constraints, signed_literal, plus, minus, CONSTRAINT, column_rule, NOT, PRIMARY, UNIQUE, CHECK, REFERENCES, referenced_name, actions, table_rule, FOREIGN, referenced_names, acting, action, CASCADE, set_to, RESTRICT, NO, SMALLINT, INTEGER, INT, BIGINT, DECIMAL, decimal, NUMERIC, VARCHAR, number_4000, BOOLEAN, number_38, ALTER, altered, ADD, added, DROP, COLUMN, dropped, setting, database_setting, truth, default_level, conjunction, or_more, OR, negation, and_more, AND, EXISTS, sum, compared, comparison, unequal, not_equal, less, less_or_equal, greater, greater_or_equal, IS, is, negated, BETWEEN, IN, in_part, LIKE, escape, ESCAPE, product, sum_more, addition, concatenate, unary, product_more, multiplication, slash, sign, primary, simple, intervals, interval, INTERVAL, plus_unit, minus_unit, DAY, MONTH, qualified, CAST, CASE, arms, else, END, COALESCE, NULLIF, ABS, MOD, UPPER, LOWER, CHAR_LENGTH, SUBSTRING, for, TRIM, trim, EXTRACT, field, COUNT, count, SUM, counted, AVG, MIN, MAX, point, WHEN, THEN, ELSE, FOR, LEADING, trim_side, TRAILING, BOTH, trim_tail, YEAR, HOUR, MINUTE, SECOND}
+use Rattle.hs_syntax.specs.Names.{statement, CHECKPOINT, SHUTDOWN, committed, UNCOMMITTED, created, CACHED, type, BLOB, VARBINARY, default_committed, write_delay, number_0, identifier, left_parenthesis, start, semicolon, semicolon_mark, query, insert, update, delete, lock, create, alter, drop, set, START, TRANSACTION, start_modes, COMMIT, work, ROLLBACK, rollback, SAVEPOINT, name, RELEASE, WORK, TO, mode, modes_more, modes, comma, ISOLATION, LEVEL, level, READ, access, ONLY, WRITE, REPEATABLE, SERIALIZABLE, COMMITTED, ACTION, AUTOCOMMIT, CHARACTERISTICS, CONTROL, DATABASE, DELAY, FILES, KEY, LOCKS, MEMORY, MVCC, MVLOCKS, SESSION, names, names_more, number, fraction, text, digit_text, other_text, literal, TRUE, FALSE, NULL, DATE, TIMESTAMP, body, ordering, limiting, ORDER, BY, keys, key, keys_more, LIMIT, limit, number_1, above, offset, OFFSET, term, body_more, UNION, union, EXCEPT, ALL, core, term_more, INTERSECT, SELECT, select, VALUES, rows, right_parenthesis, distinct, items, FROM, froms, where_part, group, having, DISTINCT, star, item, items_more, from, froms_more, WHERE, e, GROUP, group_more, HAVING, es, es_more, row, rows_more, alias, AS, table, joins, INNER, JOIN, ON, LEFT, outer, CROSS, OUTER, as_part, direction, ASC, DESC, INSERT, INTO, source, contents, tuples, inserted_query, tuple, tuples_more, tuple_value, values_more, DEFAULT, query_tail, rows_of_values, behind_rows, row_of_values, rows_of_values_more, row_of_values_more, ordered, UPDATE, SET, pair, pairs_more, update_where, equal, value, DELETE, delete_where, LOCK, TABLE, claim, claims_more, claimed, CREATE, table_definition, INDEX, element, elements_more, column, table_constraint, default, column_constraints, signed_literal, plus, minus, CONSTRAINT, column_rule, NOT, PRIMARY, UNIQUE, CHECK, REFERENCES, referenced_name, actions, table_rule, FOREIGN, referenced_names, acting, action, CASCADE, set_to, RESTRICT, NO, SMALLINT, INTEGER, INT, BIGINT, DECIMAL, decimal, NUMERIC, VARCHAR, number_4000, BOOLEAN, number_38, ALTER, altered, ADD, added, DROP, COLUMN, dropped, setting, database_setting, truth, control, default_level, conjunction, or_more, OR, negation, and_more, AND, EXISTS, sum, compared, comparison, unequal, not_equal, less, less_or_equal, greater, greater_or_equal, IS, is, negated, BETWEEN, IN, in_part, LIKE, escape, ESCAPE, product, sum_more, addition, concatenate, unary, product_more, multiplication, slash, sign, primary, simple, intervals, interval, INTERVAL, plus_unit, minus_unit, DAY, MONTH, qualified, CAST, CASE, arms, else, END, COALESCE, NULLIF, ABS, MOD, UPPER, LOWER, CHAR_LENGTH, SUBSTRING, for, TRIM, trim, EXTRACT, field, COUNT, count, SUM, counted, AVG, MIN, MAX, point, WHEN, THEN, ELSE, FOR, LEADING, trim_side, TRAILING, BOTH, trim_tail, YEAR, HOUR, MINUTE, SECOND}
 
 pub data Part : Type 0 where
   word : ℕ → Part  -- a token of this class
@@ -317,7 +317,8 @@ productions =
     to drop (word DROP ∷ rule dropped ∷ []) ∷
     to dropped (word TABLE ∷ rule name ∷ mark m.drop_table ∷ []) ∷
     to dropped (word INDEX ∷ rule name ∷ mark m.drop_index ∷ []) ∷
-    -- set = SET DATABASE TRANSACTION CONTROL LOCKS | SET DATABASE DEFAULT ISOLATION LEVEL ( READ COMMITTED | SERIALIZABLE )
+    -- set = SET DATABASE TRANSACTION CONTROL ( LOCKS | MVLOCKS | MVCC )
+    --   | SET DATABASE DEFAULT ISOLATION LEVEL ( READ COMMITTED | SERIALIZABLE )
     --   | SET AUTOCOMMIT ( TRUE | FALSE ) | SET TRANSACTION modes | SET SESSION CHARACTERISTICS AS TRANSACTION modes
     --   | SET FILES WRITE DELAY FALSE
     to set (word SET ∷ rule setting ∷ []) ∷
@@ -329,6 +330,8 @@ productions =
     to database_setting (word TRANSACTION ∷ word CONTROL ∷ rule control ∷ []) ∷
     to database_setting (word DEFAULT ∷ word ISOLATION ∷ word LEVEL ∷ rule default_level ∷ []) ∷
     to control (word LOCKS ∷ mark m.control_locks ∷ []) ∷
+    to control (word MVLOCKS ∷ mark m.control_mvlocks ∷ []) ∷
+    to control (word MVCC ∷ mark m.control_mvcc ∷ []) ∷
     to default_level (word READ ∷ rule default_committed ∷ []) ∷
     to default_level (word SERIALIZABLE ∷ mark m.default_serializable ∷ []) ∷
     to default_committed (word COMMITTED ∷ mark m.default_read_committed ∷ []) ∷
@@ -477,8 +480,6 @@ refusals =
     refuse committed UNCOMMITTED UNCOMMITTED ∷
     refuse created CACHED CACHED ∷
     refuse type BLOB VARBINARY ∷
-    refuse control MVLOCKS MVLOCKS ∷
-    refuse control MVCC MVCC ∷
     refuse default_committed UNCOMMITTED UNCOMMITTED ∷
     refuse write_delay number_0 identifier ∷
     refuse write_delay left_parenthesis UNCOMMITTED ∷

@@ -600,3 +600,9 @@ bracket = 198
 
 abbrev pub body_subquery : ℕ
 body_subquery = 199
+
+abbrev pub control_mvlocks : ℕ
+control_mvlocks = 200
+
+abbrev pub control_mvcc : ℕ
+control_mvcc = 201
