@@ -2,9 +2,7 @@
 use Rattle.std.specs.Prelude.{◌≡◌, ℕ, Bool, true, false, List, [], ◌∷◌, ◌++◌, Option, None, Some, Result, Ok, Err}
 use Rattle.hs_ast.specs.declared.statement.Stmt.{Stmt}
 use Rattle.hs_changes.specs.Changes.{count_all_inserted}
-use Rattle.hs_claims.specs.declared.model.ControlKind.TheVariants.{Locks}
 use Rattle.hs_turns.specs.Database.{Database, has_room, view}
-use Rattle.hs_turns.specs.Definitions.{control_after}
 use Rattle.hs_turns.specs.Histories.{Commit, now}
 use Rattle.hs_turns.specs.Language.{Laws, Outcome, Stands}
 use Rattle.hs_plan.specs.declared.change.Change.{Change}
@@ -30,13 +28,10 @@ seen w commits seated = view (present w commits) seated
 
 -- ---- worlds
 
--- The language of the entries meets the laws of transactions, and the database is valid. The model is LOCKS, and no
--- definition sets another one.
+-- the language of the entries meets the laws of transactions, and the database is valid
 pub record IsWorld (w : World) : Type 0 where
   pub laws : Laws (language_of w.run.dialect)
   pub opened : Stands (language_of w.run.dialect) w.run.opening
-  pub locks : w.run.opening.control ≡ Locks
-  pub keeps : (db : Database) (text : Text) (definition : Definition) → w.run.dialect.request text ≡ request.OfDefinition → w.run.dialect.definition db text ≡ Ok definition → control_after definition Locks ≡ Locks
 
 -- ---- what is asked
 

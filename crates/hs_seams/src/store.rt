@@ -16,6 +16,7 @@ use crate::asked::Asked;
 use crate::outcome::Outcome;
 use hs_ast::{Isolation, Stmt};
 use hs_base::{NoMemory, SessionNo};
+use hs_claims::ControlKind;
 use hs_log::Batch;
 use hs_plan::{Changes, Definition};
 use hs_queue::Entry;
@@ -29,6 +30,10 @@ pub trait Store {
 
     /// This is the statement of an entry with this text.
     ghost is_read: { TheStmt → Text → Type 0 };
+
+    /// The model of transactions.
+    fn control(&self) -> ControlKind
+        ensures { (w : World) (commits : List Commit) (seated : List TheChange) → stands self.now w commits seated → result ≡ (present w commits).control };
 
     /// The default level of new sessions.
     fn level(&self) -> Isolation
@@ -117,6 +122,10 @@ pub trait Store {
         requires defined { IsDefined (stands self.old) definition }
         ensures committed { (w : World) (commits : List Commit) → stands self.old w commits [] → (k : Commit) → k.session ≡ session.0 → k.changes ≡ change.Define definition ∷ [] → IfOk result (Commits (stands self.new) w commits [] k made.old made.new) }
         ensures err { OnErr result (made.new ≡ made.old) };
+
+    /// Another store with the same database, on which no changes of a transaction are. An `Err` is want of memory.
+    fn copy(&self) -> Result<Self, NoMemory>
+        ensures { (w : World) (commits : List Commit) → stands self.now w commits [] → IfOk result (λ s. stands s w commits []) };
 
     /// The world is one over which runs keep what their model promises.
     ghost world: { (s : Self) (w : World) (commits : List Commit) (seated : List TheChange) → stands s w commits seated → IsWorld w };
