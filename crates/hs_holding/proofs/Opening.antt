@@ -1,11 +1,9 @@
 -- The sessions with an open transaction, one after another.
-use Rattle.std.proofs.Common.{◌≡◌, ℕ, ◌+◌, ◌-◌, ◌<◌, ◌≤◌, ◌==◌, ◌&&◌, ◌||◌, Bool, true, false, List, [], ◌∷◌, length, get_or, refl, sym, ap, ◌∙◌, arith, eqb-true, eq-eqb}
+use Rattle.std.proofs.Common.{◌≡◌, ℕ, ◌+◌, ◌≤◌, ◌==◌, ◌&&◌, ◌||◌, Bool, true, false, length, refl, sym, ap, ◌∙◌, arith, eqb-true}
 use Rattle.std.specs.Prelude.{nat_lt}
 use Rattle.std.proofs.lemmas.Bool.{eqb-false, le-ltb, lt-ltb, ltb-false, ltb-true}
 use Rattle.std.proofs.Math.ListN.{get_or-eq_default}
-use Rattle.hs_claims.specs.Session.{IsSession}
 use Rattle.hs_holding.specs.declared.holding.Holding.{Holding}
-use Rattle.hs_holding.specs.declared.seat.Seat.{Seat}
 use Rattle.hs_holding.specs.Held.{is_open_at}
 use Rattle.hs_holding.specs.Seats.{is_open_seat, nobody_seat}
 

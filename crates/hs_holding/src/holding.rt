@@ -10,7 +10,7 @@ ghost use Rattle.hs_holding.specs.Held.{IsSeat, freed, graph, is_open_at, seat_o
 
 use crate::seat::{Own, Seat};
 use hs_base::{CommitNo, NoMemory, SessionNo};
-use hs_claims::{Blockers, Claims, catalog_claims};
+use hs_claims::{Blockers, Claims, ControlKind, catalog_claims};
 use hs_claimtable::IndexedClaims;
 use hs_plan::{Changes, Isolation};
 use hs_sessions::{Control, ControlReply, Session};
@@ -68,12 +68,12 @@ impl Holding {
         self.seats[session.0 as usize - 1].session.autocommit
     }
 
-    /// What its open transaction is like, or the one that a data statement would begin.
-    pub fn own(&self, session: SessionNo) -> Own
+    /// What its open transaction is like under a model, or the one that a data statement would begin.
+    pub fn own(&self, session: SessionNo, kind: ControlKind) -> Own
         requires { IsSeat self.now session.0 }
-        ensures { result ≡ own_in (seat_of self.now session.0) }
+        ensures { result ≡ own_in kind (seat_of self.now session.0) }
     {
-        self.seats[session.0 as usize - 1].own()
+        self.seats[session.0 as usize - 1].own(kind)
     }
 
     /// The changes of its open transaction.
@@ -82,6 +82,14 @@ impl Holding {
         ensures { result.now ≡ (seat_of self.now session.0).session.changes }
     {
         &self.seats[session.0 as usize - 1].session.changes
+    }
+
+    /// What its transaction claims, in memory of its own. An `Err` is want of memory.
+    pub fn claims_of(&self, session: SessionNo) -> Result<Claims, NoMemory>
+        requires { IsSession session.0 }
+        ensures { IfOk result (λ claims. claims ≡ held_by self.now.claims session.0) }
+    {
+        self.claims.held(session).copy()
     }
 
     /// Begins a transaction, which claims the catalogue. An `Err` is want of memory.

@@ -4,6 +4,7 @@
 
 mod holding;
 mod seat;
+mod starts;
 mod waiting;
 
 pub use holding::Holding;

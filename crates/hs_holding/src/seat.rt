@@ -5,6 +5,7 @@ ghost use Rattle.hs_holding.specs.Seats as spec;
 
 use hs_base::{CommitNo, NoMemory};
 use hs_claims::{ControlKind, Level};
+use hs_models::reads_start;
 use hs_plan::Changes;
 use hs_sessions::{Control, ControlReply, Session, level_of};
 use std::alloc::Global;
@@ -32,9 +33,9 @@ impl Seat {
         self.session.transaction.is_some()
     }
 
-    /// The open transaction's, or those of the one that a statement would begin.
-    pub fn own(&self) -> Own
-        ensures { result ≡ spec.own_in self.now }
+    /// The open transaction's under a model, or those of the one that a statement would begin.
+    pub fn own(&self, kind: ControlKind) -> Own
+        ensures { result ≡ spec.own_in kind self.now }
     {
         let modes = self.session.modes();
         let auto = if self.session.transaction.is_some() {
@@ -43,10 +44,33 @@ impl Seat {
             modes.autocommit
         };
         Own {
-            level: level_of(ControlKind::Locks, modes.isolation),
+            level: level_of(kind, modes.isolation),
             read_only: modes.read_only,
             auto,
         }
+    }
+
+    /// How many commits there were at the beginning of the open transaction. None where there is none.
+    pub fn start(&self) -> Option<CommitNo>
+        ensures { result ≡ spec.start_in self.now }
+    {
+        self.session.transaction.map(|now| now.start)
+    }
+
+    /// Whether a transaction is open that reads the state behind so many commits.
+    pub fn reads_from(&self, kind: ControlKind, start: CommitNo) -> bool
+        ensures { result ≡ spec.reads_from kind start.0 self.now }
+    {
+        let own = self.own(kind);
+        self.start() == Some(start) && reads_start(kind, own.level, own.read_only)
+    }
+
+    /// Whether a transaction is open that may conflict with commits since its beginning.
+    pub fn may_conflict(&self, kind: ControlKind) -> bool
+        ensures { result ≡ spec.may_conflict kind self.now }
+    {
+        let own = self.own(kind);
+        self.is_open() && matches!(own.level, Level::Snap) && !own.read_only
     }
 
     // Begins a transaction. Takes no memory.

@@ -6,7 +6,6 @@ use Rattle.hs_base.specs.declared.numbers.CommitNo.{CommitNo}
 use Rattle.hs_claims.specs.declared.blockers.Blockers.{Blockers}
 use Rattle.hs_claims.specs.declared.claim.Claim.{Claim}
 use Rattle.hs_claims.specs.declared.footprint.Footprint.{Footprint}
-use Rattle.hs_claims.specs.declared.model.ControlKind.TheVariants.{Locks}
 use Rattle.hs_claims.specs.Blockers.{has as has_set}
 use Rattle.hs_claims.specs.Held.{held_by}
 use Rattle.hs_claims.specs.Session.{IsSession}
@@ -55,16 +54,16 @@ module _ (h h' : Holding) (k : Kept) (holds : Holds h k) (s : ℕ) (number : IsN
   changed seat its waits seats claims w = changed_by h h' s seat (its s) waits at here seats (claims s here ∙ test_here s (its s) (held_by h.claims s))
       (λ b p ne. claims b p ∙ test_other b s (its b) (held_by h.claims b) ne) w
 
-  pub begin_holds : (auto : Bool) (start : CommitNo) → is_open_at h s ≡ false → h'.seats.items ≡ slice_set h.seats.items (s - 1) (begun auto start (seat_of h s))
+  pub begin_holds : (auto : Bool) (start : CommitNo) → start ≡ record { 0 = length k.commits } → is_open_at h s ≡ false → h'.seats.items ≡ slice_set h.seats.items (s - 1) (begun auto start (seat_of h s))
       → ((b : ℕ) → IsSession b → held_by h'.claims b ≡ (if b == s then held_by h.claims b ++ catalog_claim false ∷ [] else held_by h.claims b)) → h'.waits ≡ h.waits → Holds h' (opened s auto k)
-  begin_holds auto start shut seats claims w =
-      opened_new h h' k holds s number auto start shut (changed (begun auto start (seat_of h s)) (λ b. held_by h.claims b ++ catalog_claim false ∷ []) (graph h) seats claims (same_waits w))
+  begin_holds auto start is shut seats claims w =
+      opened_new h h' k holds s number auto start is shut (changed (begun auto start (seat_of h s)) (λ b. held_by h.claims b ++ catalog_claim false ∷ []) (graph h) seats claims (same_waits w))
 
-  pub add_holds : (changes : List Change) (f : Footprint) (more : List Claim) (o after : Open) → IsKept h (length k.settings) o → o.session ≡ s → after.session ≡ s → own_of after ≡ own_of o → after.trace.changes ≡ o.trace.changes ++ changes
-      → after.trace.savepoints ≡ o.trace.savepoints → after.trace.feet ≡ f ∷ o.trace.feet → more ≡ keeps_of Locks o.level o.read_only f → h'.seats.items ≡ slice_set h.seats.items (s - 1) (added changes (seat_of h s))
+  pub add_holds : (changes : List Change) (f : Footprint) (more : List Claim) (o after : Open) → IsKept k.kind h (length k.settings) o → o.session ≡ s → after.session ≡ s → own_of after ≡ own_of o → after.start ≡ o.start → after.trace.changes ≡ o.trace.changes ++ changes
+      → after.trace.savepoints ≡ o.trace.savepoints → after.trace.feet ≡ f ∷ o.trace.feet → more ≡ keeps_of k.kind o.level o.read_only f → h'.seats.items ≡ slice_set h.seats.items (s - 1) (added changes (seat_of h s))
       → ((b : ℕ) → IsSession b → held_by h'.claims b ≡ (if b == s then held_by h.claims b ++ more else held_by h.claims b)) → h'.waits ≡ h.waits → Holds h' (record k { open_ = put_open s after k.open_ })
-  add_holds changes f more o after kept mine its same grown points feet is seats claims w =
-      added_holds h h' k holds s number changes f o after kept mine its same grown points feet
+  add_holds changes f more o after kept mine its same began grown points feet is seats claims w =
+      added_holds h h' k holds s number changes f o after kept mine its same began grown points feet
       (subst (λ (x : List Claim). IsChanged h h' s (added changes (seat_of h s)) (held_by h.claims s ++ x) (graph h)) is
       (changed (added changes (seat_of h s)) (λ b. held_by h.claims b ++ more) (graph h) seats claims (same_waits w)))
 

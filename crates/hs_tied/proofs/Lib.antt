@@ -7,3 +7,4 @@ pub mod Settled
 pub mod Moving
 pub mod Waiting
 pub mod Calls
+pub mod Starts

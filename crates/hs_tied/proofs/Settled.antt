@@ -7,11 +7,12 @@ use Rattle.std.proofs.lemmas.List.{get_or-set_same, get_or-set_other, length-set
 use Rattle.std.proofs.lemmas.List.Folds.{list_all-append}
 use Rattle.hs_claims.specs.declared.claim.Claim.{Claim}
 use Rattle.hs_claims.specs.declared.footprint.Footprint.{Footprint}
-use Rattle.hs_claims.specs.declared.model.ControlKind.TheVariants.{Locks}
+use Rattle.hs_claims.specs.declared.model.ControlKind.{ControlKind}
+use Rattle.hs_claims.specs.declared.model.ControlKind.TheVariants.{Locks, MvLocks, Mvcc}
 use Rattle.hs_claims.specs.declared.model.Level.{Level}
 use Rattle.hs_claims.specs.declared.model.Level.TheVariants.{Rc, Ser, Snap}
 use Rattle.hs_claims.specs.Compatible.{fits, fits_one}
-use Rattle.hs_claims.specs.Wants.{catalog_claim, keeps_of}
+use Rattle.hs_claims.specs.Wants.{catalog_claim, keeps_of, table_keeps, unless_read_only}
 use Rattle.hs_turns.specs.Histories.{held}
 use Rattle.hs_turns.specs.Dialect.{untouched}
 use Rattle.hs_turns.specs.Machine.{Settings}
@@ -47,11 +48,11 @@ regroup true false false = refl
 regroup false r k = refl
 
 -- a transaction's claims and those of one statement more
-pub claims_more : (level : Level) (read_only : Bool) (f : Footprint) (feet : List Footprint) (claims wanted : List Claim) → fits wanted claims ≡ fits wanted (held Locks level read_only feet)
-    → fits wanted (claims ++ keeps_of Locks level read_only f) ≡ fits wanted (held Locks level read_only (f ∷ feet))
-claims_more level read_only f feet claims wanted is =
-    let keeps = keeps_of Locks level read_only f in
-    let rest = flat_map (keeps_of Locks level read_only) feet in
+pub claims_more : (kind : ControlKind) (level : Level) (read_only : Bool) (f : Footprint) (feet : List Footprint) (claims wanted : List Claim) → fits wanted claims ≡ fits wanted (held kind level read_only feet)
+    → fits wanted (claims ++ keeps_of kind level read_only f) ≡ fits wanted (held kind level read_only (f ∷ feet))
+claims_more kind level read_only f feet claims wanted is =
+    let keeps = keeps_of kind level read_only f in
+    let rest = flat_map (keeps_of kind level read_only) feet in
     list_all-append (fits_one wanted) claims keeps
     ∙ ap (λ (b : Bool). b && fits wanted keeps) is
     ∙ regroup (fits_one wanted (catalog_claim false)) (fits wanted rest) (fits wanted keeps)
@@ -59,16 +60,25 @@ claims_more level read_only f feet claims wanted is =
 
 -- ---- a statement that touches nothing
 
-keeps_none : (level : Level) (read_only : Bool) → keeps_of Locks level read_only untouched ≡ catalog_claim false ∷ []
-keeps_none Rc read_only = refl
-keeps_none Ser read_only = refl
-keeps_none Snap read_only = refl
+tables_none : (level : Level) → table_keeps level untouched ≡ []
+tables_none Rc = refl
+tables_none Ser = refl
+tables_none Snap = refl
+
+unless_none : (read_only : Bool) → unless_read_only read_only [] ≡ []
+unless_none true = refl
+unless_none false = refl
+
+keeps_none : (kind : ControlKind) (level : Level) (read_only : Bool) → keeps_of kind level read_only untouched ≡ catalog_claim false ∷ []
+keeps_none Locks level read_only = ap (λ (cs : List Claim). catalog_claim false ∷ cs) (tables_none level)
+keeps_none MvLocks level read_only = ap (λ (cs : List Claim). catalog_claim false ∷ cs) (ap (unless_read_only read_only) (tables_none level) ∙ unless_none read_only)
+keeps_none Mvcc level read_only = ap (λ (cs : List Claim). catalog_claim false ∷ cs) (unless_none read_only)
 
 again : (c r : Bool) → (c && (c && r)) ≡ (c && r)
 again true r = refl
 again false r = refl
 
-pub claims_same : (level : Level) (read_only : Bool) (feet : List Footprint) (wanted : List Claim) → fits wanted (held Locks level read_only (untouched ∷ feet)) ≡ fits wanted (held Locks level read_only feet)
-claims_same level read_only feet wanted =
-    let rest = flat_map (keeps_of Locks level read_only) feet in
-    ap (λ (keeps : List Claim). fits_one wanted (catalog_claim false) && fits wanted (keeps ++ rest)) (keeps_none level read_only) ∙ again (fits_one wanted (catalog_claim false)) (fits wanted rest)
+pub claims_same : (kind : ControlKind) (level : Level) (read_only : Bool) (feet : List Footprint) (wanted : List Claim) → fits wanted (held kind level read_only (untouched ∷ feet)) ≡ fits wanted (held kind level read_only feet)
+claims_same kind level read_only feet wanted =
+    let rest = flat_map (keeps_of kind level read_only) feet in
+    ap (λ (keeps : List Claim). fits_one wanted (catalog_claim false) && fits wanted (keeps ++ rest)) (keeps_none kind level read_only) ∙ again (fits_one wanted (catalog_claim false)) (fits wanted rest)

@@ -1,3 +1,4 @@
 pub mod Kept
 pub mod Holds
 pub mod Waiting
+pub mod Starts
