@@ -21,12 +21,13 @@ use Rattle.hs_waits.specs.Waits.{waits_of}
 use Rattle.hs_holding.specs.declared.holding.Holding.{Holding}
 use Rattle.hs_holding.specs.declared.seat.Seat.{Seat}
 use Rattle.hs_holding.specs.Held.{IsNumber, seat_of}
-use Rattle.hs_holding.specs.Seats.{is_open_seat, nobody_seat}
+use Rattle.hs_holding.specs.Seats.{is_open_seat, nobody_seat, start_in}
 use Rattle.hs_tied.specs.Holds.{AreClaims, Holds, IsKept, IsOwn}
 use Rattle.hs_tied.specs.Kept.{Kept, set_in}
 use Rattle.hs_tied.specs.Waiting.{Ways}
 use Rattle.hs_moves.specs.Fits.{Fits, Rests, changes_of, kept_of}
-use Rattle.hs_moves.specs.Parts.{Parts}
+use Rattle.hs_moves.specs.Parts.{Parts, Spans}
+use Rattle.hs_moves.specs.Spanned.{IsSpanned}
 use Rattle.hs_controls.specs.Called.{IsAdmitted}
 
 -- no transaction is open in either, or the same one
@@ -92,23 +93,23 @@ module _ (h h' : Holding) (level : Isolation) (i : IsAdmitted level h h') where
         get_or_push k.settings (new_settings level) (new_settings ReadCommitted) (b - 1) (omega (arith, high, most))
         ∙ ap (λ (x : Seat). settings_in x.session) (sym (ap (λ (xs : List Seat). get_or xs (b - 1) nobody_seat) i.seats ∙ get_or_push h.seats.items (fresh_seat level) nobody_seat (b - 1) (omega (arith, high, most, len))))
 
-    still_kept : (u : Open) → IsKept h n u → IsKept h' (length settings) u
+    still_kept : (u : Open) → IsKept k.kind h n u → IsKept k.kind h' (length settings) u
     still_kept u kept =
         let same = before u.session kept.number in
         record {
           number = (kept.number.0, let top = kept.number.1 in let l = long in omega (arith, top, l));
           opens = ap is_open_seat same ∙ kept.opens;
-          own = subst (λ (x : Seat). IsOwn x u) (sym same) kept.own;
-          claims = subst (AreClaims u) (sym (same_claims u.session)) kept.claims;
+          own = subst (λ (x : Seat). IsOwn k.kind x u) (sym same) kept.own;
+          claims = subst (AreClaims k.kind u) (sym (same_claims u.session)) kept.claims;
+          start = ap start_in same ∙ kept.start;
         }
 
     pub admitted_holds : Holds h' (record k { settings = settings })
     admitted_holds = record {
-      kind = holds.kind;
       len = ap length i.seats ∙ length-append h.seats.items (fresh_seat level ∷ []) ∙ ap (λ (x : ℕ). x + 1) holds.len ∙ sym long;
       most = let l = long in omega (arith, l, few);
       settings = λ b m. settings_by b m.0 (cases_lt b (n + 1)) (let top = m.1 in let l = long in omega (arith, top, l));
-      open_ = each_map (IsKept h n) (IsKept h' (length settings)) still_kept k.open_ holds.open_;
+      open_ = each_map (IsKept k.kind h n) (IsKept k.kind h' (length settings)) still_kept k.open_ holds.open_;
       known = λ b at. holds.known b at ∙ sym (seat_same b at).opens;
       idle = λ b at none. let idle = holds.idle b at none in let same = seat_same b at in record {
         changes = same.changes ∙ idle.changes;
@@ -119,8 +120,8 @@ module _ (h h' : Holding) (level : Isolation) (i : IsAdmitted level h h') where
     }
 
 pub fits_admitted : {S : Type 0} (At : S → World → List Commit → List Change → Type 0) (w : World) (side : Side) (old new : Parts S) (level : Isolation) → Rests old w (kept_of side) → length side.settings < 64 → level ≡ (present w side.history.commits).level
-    → IsAdmitted level old.holding new.holding → new.seated ≡ old.seated → new.commits ≡ old.commits → At new.store w side.history.commits (changes_of old old.seated.0) → Fits At new w (kept_of (with_new w.run side))
-fits_admitted At w side old new level rests few is i seated commits at =
+    → IsAdmitted level old.holding new.holding → new.seated ≡ old.seated → new.commits ≡ old.commits → new.spans ≡ old.spans → At new.store w side.history.commits (changes_of old old.seated.0) → Fits At new w (kept_of (with_new w.run side))
+fits_admitted At w side old new level rests few is i seated commits spans at =
     subst (λ (x : Isolation). Fits At new w (kept_of (record side { settings = side.settings ++ new_settings x ∷ [] }))) is (record {
       store = subst (λ (cs : List Change). At new.store w side.history.commits cs) (sym (ap (λ x. changes_of new x.0) seated ∙ (seat_same old.holding new.holding level i old.seated.0 rests.seat).changes)) at;
       rests = record {
@@ -128,6 +129,7 @@ fits_admitted At w side old new level rests few is i seated commits at =
         seat = subst (λ x. IsSession x.0) (sym seated) rests.seat;
         count = commits ∙ rests.count;
         few = rests.few;
+        spanned = subst (λ (x : Spans). IsSpanned x w.run.made side.history.kind side.history.commits side.history.open_) (sym spans) rests.spanned;
       };
     })
 

@@ -12,7 +12,7 @@ use Rattle.hs_sessions.specs.declared.session.Session.{Session}
 use Rattle.hs_sessions.specs.Settings.{controlled}
 use Rattle.hs_turns.specs.Events.{fresh, said, stays_open}
 use Rattle.hs_turns.specs.Events.{Act as act}
-use Rattle.hs_turns.specs.Histories.{Commit, History, Open, base}
+use Rattle.hs_turns.specs.Histories.{Commit, History, Open, base, put_open}
 use Rattle.hs_turns.specs.Transactions.{session_in}
 use Rattle.hs_turns.specs.Transactions.Statement.{OnSession}
 use Rattle.hs_lines.specs.Told.{words_of}
@@ -33,13 +33,15 @@ use Rattle.hs_holding.specs.declared.seat.Seat.{Seat}
 use Rattle.hs_holding.specs.Held.{IsNumber, is_open_at, seat_of}
 use Rattle.hs_holding.specs.Seats.{begun as begun_seat}
 use Rattle.hs_tied.specs.Holds.{Holds, IsKept}
-use Rattle.hs_tied.specs.Kept.{Kept, opened, used}
+use Rattle.hs_tied.specs.Kept.{Kept, opened, own_for, used}
 use Rattle.hs_tied.proofs.Blocking.{session_of}
 use Rattle.hs_tied.proofs.Lists.{found_each}
 use Rattle.hs_moves.specs.Called.{IsBegun}
 use Rattle.hs_moves.specs.Fits.{Fits, IsHere, Rests, changes_of, kept_of}
 use Rattle.hs_moves.specs.Moves.{Makes, Moves}
-use Rattle.hs_moves.specs.Parts.{Parts}
+use Rattle.hs_moves.specs.Parts.{Parts, Spans}
+use Rattle.hs_moves.specs.Spanned.{IsLent, IsSince, IsSpanned}
+use Rattle.hs_moves.proofs.Spanned.{spanned_put}
 use Rattle.hs_moves.proofs.Seating.{begun_changes, begun_rests, number_of}
 use Rattle.hs_moves.proofs.Steps.{takes_is}
 use Rattle.hs_moves.proofs.Texts.{makes_none, said_one}
@@ -73,14 +75,15 @@ module _ {S : Type 0} (At : S → World → List Commit → List Change → Type
   by_found f = answers (control_told w.run.dialect w.run.opening w.run.made f (done f).0 control m)
       (with_settings s (settings_in (done f).1) (if is_some f then happens w.run.dialect w.run.opening (event m s false false (act.Says (OnSession control))) m else m))
 
-  fits_by : (k : Kept) → k.commits ≡ m.history.commits → Holds new.holding k → Fits At new w k
-  fits_by k same holds = record {
+  fits_by : (k : Kept) → k.commits ≡ m.history.commits → Holds new.holding k → IsSpanned new.spans w.run.made k.kind k.commits k.open_ → Fits At new w k
+  fits_by k same holds spanned = record {
     store = subst (λ (c : List Commit). At new.store w c (changes_of new new.seated.0)) (sym same) at;
     rests = record {
       holds = holds;
       seat = rests.seat;
       count = rests.count ∙ ap (λ (c : List Commit). w.run.made + length c) (sym same);
       few = subst (λ (c : List Commit). w.run.made + length c ≤ (present w c).count) (sym same) rests.few;
+      spanned = spanned;
     };
   }
 
@@ -92,7 +95,7 @@ module _ {S : Type 0} (At : S → World → List Commit → List Change → Type
   set_shut none shut =
       let k : Kept = record (kept_of (side_of m)) { settings = slice_set m.settings (s - 1) (settings_in (done None).1) } in
       subst (λ (f : Option Open). M (by_found f)) (sym none) (record {
-        fits = fits_by k refl (shut_holds h new.holding (kept_of (side_of m)) rests.holds s number control i shut);
+        fits = fits_by k refl (shut_holds h new.holding (kept_of (side_of m)) rests.holds s number control i shut) rests.spanned;
         words = words_by w m.names told told' control (done None).0 (is ∙ ap (λ (x : ControlReply × Session). told_of w told x.0 control) (shut_is h new.holding (kept_of (side_of m)) rests.holds s number control i shut));
         final = final;
         ended = ended_is;
@@ -111,13 +114,16 @@ module _ {S : Type 0} (At : S → World → List Commit → List Change → Type
     set_open : M (in_transaction w.run.dialect w.run.opening w.run.made control s m)
     set_open =
         let k = kept_of (side_of m) in
-        let it = found_each (IsKept h (length m.settings)) s o m.history.open_ found rests.holds.open_ in
+        let it = found_each (IsKept m.history.kind h (length m.settings)) s o m.history.open_ found rests.holds.open_ in
+        let lent = found_each (IsLent new.spans.live m.history.kind (length m.history.commits)) s o m.history.open_ found rests.spanned.lent in
+        let since = found_each (IsSince new.spans.first) s o m.history.open_ found rests.spanned.since in
+        let spanned = spanned_put new.spans w.run.made m.history.kind m.history.commits m.history.open_ rests.spanned s after (record { begun = lent.0.begun; lent = lent.0.lent }) since.0 in
         let holds = open_holds h new.holding k rests.holds s number control i o it.0 it.1 in
         let same = same_reply h new.holding k rests.holds s number control i o it.0 it.1 in
         let set : Settings = settings_in (done (Some o)).1 in
         let behind : History → Kept = λ x. kept_of (side_of (with_settings s set (record m { history = x }))) in
         subst (λ (f : Option Open). M (by_found f)) (sym found) (record {
-          fits = subst (λ (x : History). Fits At new w (behind x)) (sym stepped) (fits_by (behind (stays_open after s m.history)) refl holds);
+          fits = subst (λ (x : History). Fits At new w (behind x)) (sym stepped) (fits_by (behind (stays_open after s m.history)) refl holds spanned);
           words = words_by w m.names told told' control (controlled control (session_in o.trace)).0 (is ∙ ap (λ (x : ControlReply). told_of w told x control) same);
           final = final;
           ended = ended_is;
@@ -189,21 +195,21 @@ module _ {S : Type 0} (At : S → World → List Commit → List Change → Type
   pub at_once : begins_first control (seat_of old.holding s) ≡ false → IsSet At w m.history.commits control s old old.holding new r told told'
       → Moves At w m (attempt_control w.run.dialect w.run.opening w.run.made control s m) new r told told' made made
   at_once none i =
-      let now : Rests (record new { holding = old.holding }) w k = record { holds = rests.holds; seat = subst (λ x. IsSession x.0) (sym i.seated) rests.seat; count = i.commits_same ∙ rests.count; few = rests.few } in
+      let now : Rests (record new { holding = old.holding }) w k = record { holds = rests.holds; seat = subst (λ x. IsSession x.0) (sym i.seated) rests.seat; count = i.commits_same ∙ rests.count; few = rests.few; spanned = subst (λ (x : Spans). IsSpanned x w.run.made m.history.kind m.history.commits m.history.open_) (sym i.spans) rests.spanned } in
       let at = taken_back At w m.history.commits k old new old.holding control s rests.holds number rests.seat (λ b p. refl) i.sessions i.seated i.store in
       subst (λ (x : Machine). Moves At w m (in_transaction w.run.dialect w.run.opening w.run.made control s x) new r told told' made made) (sym (ready_by false none))
       (set_now At w m new r told told' control s made old.holding now number i.sessions at i.final_is i.ended_is i.told_is)
 
-  pub begins_before : (begun : Holding) (start : CommitNo) → begins_first control (seat_of old.holding s) ≡ true → IsBegun old.holding begun s false start → IsSet At w m.history.commits control s old begun new r told told'
+  pub begins_before : (begun : Holding) (start : CommitNo) → begins_first control (seat_of old.holding s) ≡ true → IsBegun old.holding begun s false start → start.0 ≡ length m.history.commits → IsSet At w m.history.commits control s old begun new r told told'
       → Moves At w m (attempt_control w.run.dialect w.run.opening w.run.made control s m) new r told told' made made
-  begins_before begun start some b i =
+  begins_before begun start some b first i =
       let shut = last_false (is_savepoint control) (seat_of old.holding s).session.autocommit (is_open_at old.holding s) some in
       let mid : Parts S = record old { holding = begun } in
-      let at_mid = begun_rests old mid w k s here false start shut b rests refl refl in
+      let at_mid = begun_rests old mid w k s here false start shut b rests first refl refl refl in
       let next : Machine = record (happens w.run.dialect w.run.opening (begins_event w.run.dialect w.run.opening w.run.made m s) m) { settings = used s k } in
-      let now : Rests (record new { holding = begun }) w (opened s false k) = record { holds = at_mid.holds; seat = subst (λ x. IsSession x.0) (sym i.seated) rests.seat; count = i.commits_same ∙ rests.count; few = rests.few } in
+      let now : Rests (record new { holding = begun }) w (opened s false k) = record { holds = at_mid.holds; seat = subst (λ x. IsSession x.0) (sym i.seated) rests.seat; count = i.commits_same ∙ rests.count; few = rests.few; spanned = subst (λ (x : Spans). IsSpanned x w.run.made m.history.kind m.history.commits (put_open s (own_for s false k) m.history.open_)) (sym i.spans) at_mid.spanned } in
       let its = number_of mid (opened s false k) s at_mid.holds (begun_here begun start shut b) in
-      let at = taken_back At w m.history.commits (opened s false k) old new begun control s at_mid.holds its rests.seat (λ x p. begun_changes old mid w k s here false start shut b rests.holds x p) i.sessions i.seated i.store in
+      let at = taken_back At w m.history.commits (opened s false k) old new begun control s at_mid.holds its rests.seat (λ x p. begun_changes old mid w k s here false start shut b rests.holds first x p) i.sessions i.seated i.store in
       let moves = set_now At w next new r told told' control s made begun now its i.sessions at i.final_is i.ended_is i.told_is in
       subst (λ (x : Machine). Moves At w m (in_transaction w.run.dialect w.run.opening w.run.made control s x) new r told told' made made)
       (sym (ready_by true some ∙ takes_is w m (begins_event w.run.dialect w.run.opening w.run.made m s)))

@@ -3,9 +3,10 @@ use Rattle.std.proofs.Common.{◌≡◌, ℕ, ◌==◌, Bool, true, false, List,
 use Rattle.std.specs.Prelude.{Option, Some, if◌then◌else◌}
 use Rattle.hs_ast.specs.declared.session.Modes.{Modes as NewModes}
 use Rattle.hs_changes.specs.Changes.{count_all_inserted}
+use Rattle.hs_claims.specs.declared.model.ControlKind.{ControlKind}
 use Rattle.hs_plan.specs.declared.change.Change.{Change}
 use Rattle.hs_turns.specs.Database.{Database, view}
-use Rattle.hs_turns.specs.Histories.{Open, own}
+use Rattle.hs_turns.specs.Histories.{Commit, Open, own}
 use Rattle.hs_schema.specs.Catalogue.{Text}
 use Rattle.hs_seams.specs.Stores.{seen}
 use Rattle.hs_seams.specs.World.{World}
@@ -18,6 +19,7 @@ use Rattle.hs_turns.specs.Waiting.{Entry}
 use Rattle.hs_turns.proofs.Opened.{own_found}
 use Rattle.hs_holding.specs.declared.seat.Own.{Own}
 use Rattle.hs_holding.specs.Held.{IsNumber, seat_of}
+use Rattle.hs_holding.specs.Seats.{own_in}
 use Rattle.hs_tied.specs.Holds.{IsOwn}
 use Rattle.hs_tied.specs.Kept.{Kept, fresh_for, own_for, set_in}
 use Rattle.hs_tied.proofs.Moving.{own_is}
@@ -26,8 +28,8 @@ use Rattle.hs_moves.specs.Fits.{IsHere, Rests, changes_of, kept_of}
 use Rattle.hs_moves.specs.Parts.{Parts}
 use Rattle.hs_moves.specs.Refused.{IsRefused}
 use Rattle.hs_moves.proofs.Seating.{number_of}
-use Rattle.hs_moves.proofs.Worlds.{base_now}
-use Rattle.hs_controls.specs.Sights.{refusal_at}
+use Rattle.hs_moves.proofs.Worlds.{base_read}
+use Rattle.hs_controls.specs.Sights.{IsRead, refusal_at}
 
 -- what is asked of a session's own transaction, where all that it might begin answer the same
 own_any : {A : Type 0} (f : Open → A) (s : ℕ) (new new' : Open) → f new ≡ f new' → (xs : List Open) → f (own s new xs) ≡ f (own s new' xs)
@@ -51,55 +53,54 @@ module _ {S : Type 0} (w : World) (m : Machine) (old : Parts S) (entry : Entry) 
   abbrev auto : Bool
   auto = (set_in m.settings s).autocommit
 
-  pub its_own : IsOwn (seat_of old.holding s) (data_own w m entry)
-  its_own = own_is old.holding old.holding k rests.holds s number auto (record { 0 = 0 }) refl
+  pub its_own : IsOwn m.history.kind (seat_of old.holding s) (data_own w m entry)
+  its_own = own_is old.holding old.holding k rests.holds s number auto (record { 0 = length m.history.commits }) refl
 
-  seen_as : (o : Open) → seen_by w.run.dialect w.run.opening w.run.made m o ≡ seen w m.history.commits o.trace.changes
-  seen_as o = ap (λ (db : Database). view db o.trace.changes) (base_now m.history.kind rests.holds.kind w.run.opening m.history.commits o)
+  module _ (read : List Commit) (is_read : IsRead w m entry read) where
+    pub its_sight : seen_by w.run.dialect w.run.opening w.run.made m (data_own w m entry) ≡ seen w read (changes_of old s)
+    its_sight = ap (λ (db : Database). view db (data_own w m entry).trace.changes) (base_read m.history.kind w.run.opening m.history.commits (data_own w m entry))
+        ∙ ap₂ (λ (cs : List Commit) (changes : List Change). seen w cs changes) (sym is_read) (sym its_own.changes)
 
-  pub its_sight : seen_by w.run.dialect w.run.opening w.run.made m (data_own w m entry) ≡ seen w m.history.commits (changes_of old s)
-  its_sight = seen_as (data_own w m entry) ∙ ap (λ (cs : List Change). seen w m.history.commits cs) (sym its_own.changes)
+    -- why it is refused, as a transaction has it
+    abbrev refused_by : Open → Option Text
+    refused_by o = w.run.dialect.refusal o.read_only (seen_by w.run.dialect w.run.opening w.run.made m o) entry.text
 
-  -- why it is refused, as a transaction has it
-  abbrev refused_by : Open → Option Text
-  refused_by o = w.run.dialect.refusal o.read_only (seen_by w.run.dialect w.run.opening w.run.made m o) entry.text
+    data_refusal : refused_by (data_own w m entry) ≡ refusal_at old w read entry
+    data_refusal = ap₂ (λ (x : Own) (db : Database). w.run.dialect.refusal x.read_only db entry.text) (sym its_own.own ∙ ap (λ (kind : ControlKind). own_in kind (seat_of old.holding s)) (sym rests.spanned.kind_is)) its_sight
 
-  data_refusal : refused_by (data_own w m entry) ≡ refusal_at old w m.history.commits entry
-  data_refusal = ap₂ (λ (x : Own) (db : Database). w.run.dialect.refusal x.read_only db entry.text) (sym its_own.own) its_sight
+    own_refusal : (b : Bool) → refused_by (own_for s b k) ≡ refusal_at old w read entry
+    own_refusal b = own_any refused_by s (fresh_for s b k) (fresh_for s auto k) refl m.history.open_ ∙ data_refusal
 
-  own_refusal : (b : Bool) → refused_by (own_for s b k) ≡ refusal_at old w m.history.commits entry
-  own_refusal b = own_any refused_by s (fresh_for s b k) (fresh_for s auto k) refl m.history.open_ ∙ data_refusal
+    open_refusal : (o : Open) → open_of m s ≡ Some o → refused_by o ≡ refusal_at old w read entry
+    open_refusal o found = ap refused_by (sym (own_found s (fresh_for s auto k) o m.history.open_ found)) ∙ data_refusal
 
-  open_refusal : (o : Open) → open_of m s ≡ Some o → refused_by o ≡ refusal_at old w m.history.commits entry
-  open_refusal o found = ap refused_by (sym (own_found s (fresh_for s auto k) o m.history.open_ found)) ∙ data_refusal
+    -- ---- as statements of the transaction that is open
 
-  -- ---- as statements of the transaction that is open
+    pub data_refused : (why : Text) → w.run.dialect.request entry.text ≡ request.OfData → refusal_at old w read entry ≡ Some why → IsRefused w m entry why
+    data_refused why asks e o found =
+        let db = seen_by w.run.dialect w.run.opening w.run.made m o in
+        let n = count_all_inserted o.trace.changes in
+        ap (λ (q : Request). outcome_of w.run.dialect o.read_only n db entry.text q) asks
+        ∙ ap (λ (x : Option Text). unless_refused x (w.run.dialect.outcome o.read_only n db entry.text)) (open_refusal o found ∙ e)
 
-  pub data_refused : (why : Text) → w.run.dialect.request entry.text ≡ request.OfData → refusal_at old w m.history.commits entry ≡ Some why → IsRefused w m entry why
-  data_refused why asks e o found =
-      let db = seen_by w.run.dialect w.run.opening w.run.made m o in
-      let n = count_all_inserted o.trace.changes in
-      ap (λ (q : Request). outcome_of w.run.dialect o.read_only n db entry.text q) asks
-      ∙ ap (λ (x : Option Text). unless_refused x (w.run.dialect.outcome o.read_only n db entry.text)) (open_refusal o found ∙ e)
+    pub definition_refused : (why : Text) → w.run.dialect.request entry.text ≡ request.OfDefinition → refusal_at old w read entry ≡ Some why → IsRefused w m entry why
+    definition_refused why asks e o found =
+        let db = seen_by w.run.dialect w.run.opening w.run.made m o in
+        let n = count_all_inserted o.trace.changes in
+        ap (λ (q : Request). outcome_of w.run.dialect o.read_only n db entry.text q) asks
+        ∙ ap (λ (x : Option Text). unless_refused x nothing) (open_refusal o found ∙ e)
 
-  pub definition_refused : (why : Text) → w.run.dialect.request entry.text ≡ request.OfDefinition → refusal_at old w m.history.commits entry ≡ Some why → IsRefused w m entry why
-  definition_refused why asks e o found =
-      let db = seen_by w.run.dialect w.run.opening w.run.made m o in
-      let n = count_all_inserted o.trace.changes in
-      ap (λ (q : Request). outcome_of w.run.dialect o.read_only n db entry.text q) asks
-      ∙ ap (λ (x : Option Text). unless_refused x nothing) (open_refusal o found ∙ e)
+    -- ---- a data statement
 
-  -- ---- a data statement
+    pub data_by_refusal : (P : Attempt → Type 0) (found : Option Text) → refusal_at old w read entry ≡ found → P (data_by w.run.dialect w.run.opening w.run.made found entry (data_own w m entry) m)
+        → P (attempt_data w.run.dialect w.run.opening w.run.made entry m)
+    data_by_refusal P found e h = subst (λ (x : Option Text). P (data_by w.run.dialect w.run.opening w.run.made x entry (data_own w m entry) m)) (sym (data_refusal ∙ e)) h
 
-  pub data_by_refusal : (P : Attempt → Type 0) (found : Option Text) → refusal_at old w m.history.commits entry ≡ found → P (data_by w.run.dialect w.run.opening w.run.made found entry (data_own w m entry) m)
-      → P (attempt_data w.run.dialect w.run.opening w.run.made entry m)
-  data_by_refusal P found e h = subst (λ (x : Option Text). P (data_by w.run.dialect w.run.opening w.run.made x entry (data_own w m entry) m)) (sym (data_refusal ∙ e)) h
+    -- ---- a definition
 
-  -- ---- a definition
-
-  pub definition_by_refusal : (P : Attempt → Type 0) (is_first : Bool) (found : Option Text) → refusal_at old w m.history.commits entry ≡ found → P (definition_by w.run.dialect w.run.opening w.run.made is_first found entry m)
-      → P (attempt_definition w.run.dialect w.run.opening w.run.made is_first entry m)
-  definition_by_refusal P is_first found e h = subst (λ (x : Option Text). P (definition_by w.run.dialect w.run.opening w.run.made is_first x entry m)) (sym (own_refusal false ∙ e)) h
+    pub definition_by_refusal : (P : Attempt → Type 0) (is_first : Bool) (found : Option Text) → refusal_at old w read entry ≡ found → P (definition_by w.run.dialect w.run.opening w.run.made is_first found entry m)
+        → P (attempt_definition w.run.dialect w.run.opening w.run.made is_first entry m)
+    definition_by_refusal P is_first found e h = subst (λ (x : Option Text). P (definition_by w.run.dialect w.run.opening w.run.made is_first x entry m)) (sym (own_refusal false ∙ e)) h
 
 -- ---- by the text alone
 

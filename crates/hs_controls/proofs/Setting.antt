@@ -2,6 +2,7 @@
 use Rattle.std.proofs.Common.{◌≡◌, ℕ, ◌-◌, true, false, List, ◌∷◌, length, refl, sym, ap, ◌∙◌, subst}
 use Rattle.std.specs.Prelude.{Option, None, Some, is_some, slice_set}
 use Rattle.hs_claims.specs.declared.claim.Claim.{Claim}
+use Rattle.hs_claims.specs.declared.model.ControlKind.{ControlKind}
 use Rattle.hs_claims.specs.Blockers.{has as has_set}
 use Rattle.hs_claims.specs.Held.{held_by}
 use Rattle.hs_claims.specs.Session.{IsSession}
@@ -19,7 +20,7 @@ use Rattle.hs_waits.specs.Waits.{waits_of}
 use Rattle.hs_holding.specs.declared.holding.Holding.{Holding}
 use Rattle.hs_holding.specs.declared.seat.Seat.{Seat}
 use Rattle.hs_holding.specs.Held.{IsNumber, graph, is_open_at, seat_of}
-use Rattle.hs_holding.specs.Seats.{is_open_seat, own_in}
+use Rattle.hs_holding.specs.Seats.{is_open_seat, own_in, start_in}
 use Rattle.hs_tied.specs.Holds.{AreClaims, Holds, IsKept, IsOwn}
 use Rattle.hs_tied.specs.Kept.{Kept, set_in}
 use Rattle.hs_tied.proofs.Blocking.{session_of}
@@ -34,12 +35,12 @@ abbrev pub controlled_own : Control → Open → Open
 controlled_own control o = record o { statements = OnSession control ∷ o.statements; trace = with_session (controlled control (session_in o.trace)) o.trace }
 
 -- a transaction that stays keeps its level and access
-own_by : (t : Option Transaction) → is_some t ≡ true → (seat : Seat) (x : Session) → own_in (record seat { session = record x { transaction = t } }) ≡ own_in (record seat { session = record seat.session { transaction = t } })
-own_by None e seat x = absurd cc
-own_by (Some t) e seat x = refl
+own_by : (kind : ControlKind) (t : Option Transaction) → is_some t ≡ true → (seat : Seat) (x : Session) → own_in kind (record seat { session = record x { transaction = t } }) ≡ own_in kind (record seat { session = record seat.session { transaction = t } })
+own_by kind None e seat x = absurd cc
+own_by kind (Some t) e seat x = refl
 
-own_same : (seat : Seat) (x : Session) → is_some seat.session.transaction ≡ true → x.transaction ≡ seat.session.transaction → own_in (record seat { session = x }) ≡ own_in seat
-own_same seat x opens same = ap (λ (t : Option Transaction). own_in (let y : Seat = record seat { session = record x { transaction = t } } in y)) same ∙ own_by seat.session.transaction opens seat x
+own_same : (kind : ControlKind) (seat : Seat) (x : Session) → is_some seat.session.transaction ≡ true → x.transaction ≡ seat.session.transaction → own_in kind (record seat { session = x }) ≡ own_in kind seat
+own_same kind seat x opens same = ap (λ (t : Option Transaction). own_in kind (let y : Seat = record seat { session = record x { transaction = t } } in y)) same ∙ own_by kind seat.session.transaction opens seat x
 
 module _ (h h' : Holding) (k : Kept) (holds : Holds h k) (s : ℕ) (number : IsNumber (length k.settings) s) (control : Control) (i : IsControlled control h h' s) where
   abbrev session : Session
@@ -88,12 +89,12 @@ module _ (h h' : Holding) (k : Kept) (holds : Holds h k) (s : ℕ) (number : IsN
         (subst (λ (x : ControlReply × Session). SetAt s (settings_in x.1) k.settings (slice_set k.settings (s - 1) its)) (sym shut_is) (set_at s its k.settings number))
 
   -- this one is
-  module _ (o : Open) (kept : IsKept h (length k.settings) o) (mine : o.session ≡ s) where
+  module _ (o : Open) (kept : IsKept k.kind h (length k.settings) o) (mine : o.session ≡ s) where
     opens : is_open_seat (seat_of h s) ≡ true
     opens = subst (λ (x : ℕ). is_open_seat (seat_of h x) ≡ true) mine kept.opens
 
-    own : IsOwn (seat_of h s) o
-    own = subst (λ (x : ℕ). IsOwn (seat_of h x) o) mine kept.own
+    own : IsOwn k.kind (seat_of h s) o
+    own = subst (λ (x : ℕ). IsOwn k.kind (seat_of h x) o) mine kept.own
 
     pub same_reply : (controlled control session).0 ≡ (controlled control (session_in o.trace)).0
     same_reply = (alike control session o.trace opens own.changes own.savepoints).reply
@@ -108,6 +109,7 @@ module _ (h h' : Holding) (k : Kept) (holds : Holds h k) (s : ℕ) (number : IsN
         let its : Settings = settings_in (controlled control (session_seen set (Some o))).1 in
         put_holds h h' k holds s number seat (held_by h.claims s) control_changed (controlled_own control o) (slice_set k.settings (s - 1) its) mine
         (ap is_some stays.transaction ∙ opens)
-        (record { own = own_same (seat_of h s) seat.session opens stays.transaction ∙ own.own; changes = same.changes; savepoints = same.savepoints })
-        (subst (λ (x : ℕ). AreClaims o (held_by h.claims x)) mine kept.claims)
+        (ap (λ (t : Option Transaction). start_in (let x : Seat = record seat { session = record seat.session { transaction = t } } in x)) stays.transaction ∙ subst (λ (x : ℕ). start_in (seat_of h x) ≡ Some (record { 0 = o.start })) mine kept.start)
+        (record { own = own_same k.kind (seat_of h s) seat.session opens stays.transaction ∙ own.own; changes = same.changes; savepoints = same.savepoints })
+        (subst (λ (x : ℕ). AreClaims k.kind o (held_by h.claims x)) mine kept.claims)
         (subst (λ (x : Settings). SetAt s x k.settings (slice_set k.settings (s - 1) its)) same_set (set_at s its k.settings number))

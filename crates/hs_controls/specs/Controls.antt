@@ -41,6 +41,7 @@ pub record IsSet {S : Type 0} (At : S → World → List Commit → List Change 
   pub store : IsTakenBack At w commits old new s
   pub seated : new.seated ≡ old.seated
   pub commits_same : new.commits ≡ old.commits
+  pub spans : new.spans ≡ old.spans
   pub final_is : r.is_final ≡ true
   pub ended_is : r.has_ended ≡ false
   pub told_is : told ≡ control_told w old_told (controlled control (seat_of begun s).session).0 control

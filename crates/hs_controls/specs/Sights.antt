@@ -11,12 +11,18 @@ use Rattle.hs_turns.specs.Waiting.{Entry}
 use Rattle.hs_holding.specs.declared.holding.Holding.{Holding}
 use Rattle.hs_holding.specs.Held.{is_open_at, seat_of}
 use Rattle.hs_holding.specs.Seats.{own_in}
+use Rattle.hs_moves.specs.Evaluated.{data_own}
 use Rattle.hs_moves.specs.Fits.{changes_of}
 use Rattle.hs_moves.specs.Parts.{Parts}
+use Rattle.hs_moves.specs.Spanned.{read_by}
 
--- why a statement is refused before it wants anything, over the database as its session sees it
+-- why a statement is refused before it wants anything, where its session reads behind these commits
 abbrev pub refusal_at : {S : Type 0} → Parts S → World → List Commit → Entry → Option Text
-refusal_at t w commits entry = w.run.dialect.refusal (own_in (seat_of t.holding entry.session)).read_only (seen w commits (changes_of t entry.session)) entry.text
+refusal_at t w read entry = w.run.dialect.refusal (own_in t.spans.kind (seat_of t.holding entry.session)).read_only (seen w read (changes_of t entry.session)) entry.text
+
+-- a statement of a session reads behind these commits
+abbrev pub IsRead : World → Machine → Entry → List Commit → Type 0
+IsRead w m entry read = read ≡ read_by m.history.kind m.history.commits (data_own w m entry)
 
 -- no session has an open transaction
 abbrev pub IsQuiet : Holding → Type 0

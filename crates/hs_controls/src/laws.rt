@@ -8,13 +8,12 @@ ghost use Rattle.hs_base.specs.declared.numbers.CommitNo.{CommitNo};
 ghost use Rattle.hs_base.specs.declared.numbers.SessionNo.{SessionNo};
 ghost use Rattle.hs_claims.specs.declared.blockers.Blockers.{Blockers};
 ghost use Rattle.hs_claims.specs.declared.claim.Claim.{Claim};
-ghost use Rattle.hs_claims.specs.declared.model.ControlKind.TheVariants.{Locks};
 ghost use Rattle.hs_claims.specs.Blockers.{has};
 ghost use Rattle.hs_claims.specs.Held.{blocks as claims_block};
 ghost use Rattle.hs_claims.specs.Session.{IsSession};
 ghost use Rattle.hs_turns.specs.Definitions.{control_after};
 ghost use Rattle.hs_turns.specs.Events.{definition_commit};
-ghost use Rattle.hs_turns.specs.Histories.{Open, commit_of};
+ghost use Rattle.hs_turns.specs.Histories.{Commit, Open, commit_of};
 ghost use Rattle.hs_holding.specs.declared.holding.Holding.{Holding};
 ghost use Rattle.hs_holding.specs.Held.{is_open_at, seat_of};
 ghost use Rattle.hs_lines.specs.declared.words.Words.{Words as Said};
@@ -45,7 +44,7 @@ ghost use Rattle.hs_moves.specs.Parts.{Parts};
 ghost use Rattle.hs_moves.specs.Refused.{IsRefused};
 ghost use Rattle.hs_controls.specs.Called.{IsAdmitted, IsAnswered, IsHeldUp};
 ghost use Rattle.hs_controls.specs.Controls.{IsSet, begins_first};
-ghost use Rattle.hs_controls.specs.Sights.{IsQuiet, behind_own, refusal_at};
+ghost use Rattle.hs_controls.specs.Sights.{IsQuiet, IsRead, behind_own, refusal_at};
 
 use hs_seams::Store;
 
@@ -57,7 +56,7 @@ pub fn a_statement_on_settings_is_done_at_once<S: Store>()
         → begins_first control (seat_of old.holding s) ≡ false → IsSet S.stands w m.history.commits control s old old.holding new r old_told told
         → Moves S.stands w m (attempt_control w.run.dialect w.run.opening w.run.made control s m) new r old_told told made made }
     ensures begins { (w : World) (m : Machine) (old new : Parts S) (begun : Holding) (start : CommitNo) (r : Attempted) (old_told told : List Said) (control : Control) (s : ℕ) (made : List (List ℕ)) → IsHere old s → Rests old w (kept_of (side_of m))
-        → begins_first control (seat_of old.holding s) ≡ true → IsBegun old.holding begun s false start → IsSet S.stands w m.history.commits control s old begun new r old_told told
+        → begins_first control (seat_of old.holding s) ≡ true → IsBegun old.holding begun s false start → start.0 ≡ length m.history.commits → IsSet S.stands w m.history.commits control s old begun new r old_told told
         → Moves S.stands w m (attempt_control w.run.dialect w.run.opening w.run.made control s m) new r old_told told made made }
 {}
 
@@ -67,32 +66,32 @@ pub fn a_statement_on_settings_is_done_at_once<S: Store>()
 pub fn entries_are_refused_as_statements<S: Store>()
     ensures faulty { (w : World) (m : Machine) (entry : Entry) (why : Text) → w.run.dialect.request entry.text ≡ request.Faulty why → IsRefused w m entry why }
     ensures starts { (w : World) (m : Machine) (entry : Entry) (modes : NewModes) → w.run.dialect.request entry.text ≡ request.Starts modes → IsRefused w m entry open_transaction }
-    ensures data { (w : World) (m : Machine) (old : Parts S) (entry : Entry) (why : Text) → IsHere old entry.session → Rests old w (kept_of (side_of m)) → w.run.dialect.request entry.text ≡ request.OfData
-        → refusal_at old w m.history.commits entry ≡ Some why → IsRefused w m entry why }
-    ensures definition { (w : World) (m : Machine) (old : Parts S) (entry : Entry) (why : Text) → IsHere old entry.session → Rests old w (kept_of (side_of m)) → w.run.dialect.request entry.text ≡ request.OfDefinition
-        → refusal_at old w m.history.commits entry ≡ Some why → IsRefused w m entry why }
+    ensures data { (w : World) (m : Machine) (old : Parts S) (entry : Entry) (why : Text) (read : List Commit) → IsHere old entry.session → Rests old w (kept_of (side_of m)) → IsRead w m entry read
+        → w.run.dialect.request entry.text ≡ request.OfData → refusal_at old w read entry ≡ Some why → IsRefused w m entry why }
+    ensures definition { (w : World) (m : Machine) (old : Parts S) (entry : Entry) (why : Text) (read : List Commit) → IsHere old entry.session → Rests old w (kept_of (side_of m)) → IsRead w m entry read
+        → w.run.dialect.request entry.text ≡ request.OfDefinition → refusal_at old w read entry ≡ Some why → IsRefused w m entry why }
 {}
 
 /// A data statement's transaction, open or begun with it, is what `Holding::own` and `Holding::changes` answer, and it
 /// sees the database with these changes. It is refused in its place by what `Store::refusal` or `Store::evaluate`
 /// answers there, where its session is seated.
 pub fn a_data_statement_sees_the_changes_of_its_session<S: Store>()
-    ensures own { (w : World) (m : Machine) (old : Parts S) (entry : Entry) → IsHere old entry.session → Rests old w (kept_of (side_of m)) → IsOwn (seat_of old.holding entry.session) (data_own w m entry) }
-    ensures seen { (w : World) (m : Machine) (old : Parts S) (entry : Entry) → IsHere old entry.session → Rests old w (kept_of (side_of m))
-        → seen_by w.run.dialect w.run.opening w.run.made m (data_own w m entry) ≡ seen w m.history.commits (changes_of old entry.session) }
-    ensures refused { (w : World) (m : Machine) (old new : Parts S) (r : Attempted) (old_told told : List Said) (old_made made : List (List ℕ)) (entry : Entry) (why : Text) → IsHere old entry.session → Rests old w (kept_of (side_of m))
-        → refusal_at old w m.history.commits entry ≡ Some why → Moves S.stands w m (refused_in_place w.run.dialect w.run.opening w.run.made entry why m) new r old_told told old_made made
+    ensures own { (w : World) (m : Machine) (old : Parts S) (entry : Entry) → IsHere old entry.session → Rests old w (kept_of (side_of m)) → IsOwn m.history.kind (seat_of old.holding entry.session) (data_own w m entry) }
+    ensures seen { (w : World) (m : Machine) (old : Parts S) (entry : Entry) (read : List Commit) → IsHere old entry.session → Rests old w (kept_of (side_of m)) → IsRead w m entry read
+        → seen_by w.run.dialect w.run.opening w.run.made m (data_own w m entry) ≡ seen w read (changes_of old entry.session) }
+    ensures refused { (w : World) (m : Machine) (old new : Parts S) (r : Attempted) (old_told told : List Said) (old_made made : List (List ℕ)) (entry : Entry) (why : Text) (read : List Commit) → IsHere old entry.session → Rests old w (kept_of (side_of m))
+        → IsRead w m entry read → refusal_at old w read entry ≡ Some why → Moves S.stands w m (refused_in_place w.run.dialect w.run.opening w.run.made entry why m) new r old_told told old_made made
         → Moves S.stands w m (attempt_data w.run.dialect w.run.opening w.run.made entry m) new r old_told told old_made made }
 {}
 
 /// A definition is refused in its place by what `Store::refusal` answers, where its session is seated; else it is
 /// bound.
 pub fn a_definition_is_refused_or_bound<S: Store>()
-    ensures refused { (w : World) (m : Machine) (old new : Parts S) (r : Attempted) (old_told told : List Said) (old_made made : List (List ℕ)) (is_first : Bool) (entry : Entry) (why : Text) → IsHere old entry.session → Rests old w (kept_of (side_of m))
-        → refusal_at old w m.history.commits entry ≡ Some why → Moves S.stands w m (refused_in_place w.run.dialect w.run.opening w.run.made entry why m) new r old_told told old_made made
+    ensures refused { (w : World) (m : Machine) (old new : Parts S) (r : Attempted) (old_told told : List Said) (old_made made : List (List ℕ)) (is_first : Bool) (entry : Entry) (why : Text) (read : List Commit) → IsHere old entry.session → Rests old w (kept_of (side_of m))
+        → IsRead w m entry read → refusal_at old w read entry ≡ Some why → Moves S.stands w m (refused_in_place w.run.dialect w.run.opening w.run.made entry why m) new r old_told told old_made made
         → Moves S.stands w m (attempt_definition w.run.dialect w.run.opening w.run.made is_first entry m) new r old_told told old_made made }
-    ensures bound { (w : World) (m : Machine) (old new : Parts S) (r : Attempted) (old_told told : List Said) (old_made made : List (List ℕ)) (is_first : Bool) (entry : Entry) → IsHere old entry.session → Rests old w (kept_of (side_of m))
-        → refusal_at old w m.history.commits entry ≡ None → Moves S.stands w m (bound_definition w.run.dialect w.run.opening w.run.made is_first entry m) new r old_told told old_made made
+    ensures bound { (w : World) (m : Machine) (old new : Parts S) (r : Attempted) (old_told told : List Said) (old_made made : List (List ℕ)) (is_first : Bool) (entry : Entry) (read : List Commit) → IsHere old entry.session → Rests old w (kept_of (side_of m))
+        → IsRead w m entry read → refusal_at old w read entry ≡ None → Moves S.stands w m (bound_definition w.run.dialect w.run.opening w.run.made is_first entry m) new r old_told told old_made made
         → Moves S.stands w m (attempt_definition w.run.dialect w.run.opening w.run.made is_first entry m) new r old_told told old_made made }
 {}
 
@@ -143,15 +142,17 @@ pub fn a_definition_waits_for_each_open_transaction<S: Store>()
         → Moves S.stands w m (defining w.run.dialect w.run.opening w.run.made m.history.open_ [] entry m) new r old_told told made made }
     ensures waits { (w : World) (m : Machine) (old new : Parts S) (r : Attempted) (old_told told : List Said) (made : List (List ℕ)) (entry : Entry) (set : Blockers) → IsHere old entry.session → Rests old w (kept_of (side_of m))
         → Ways (length m.settings) m.waits → length m.settings ≡ length m.names → ((b : ℕ) → IsSession b → has set b ≡ is_open_at old.holding b) → (IsQuiet old.holding → ⊥) → IsFirstLeading old.holding.waits entry.session set None
-        → IsHeldUp old.holding new.holding entry.session set → new.seated ≡ old.seated → new.commits ≡ old.commits → S.stands new.store w m.history.commits (changes_of old old.seated.0)
+        → IsHeldUp old.holding new.holding entry.session set → new.seated ≡ old.seated → new.commits ≡ old.commits → new.spans ≡ old.spans → S.stands new.store w m.history.commits (changes_of old old.seated.0)
         → r.is_final ≡ false → r.has_ended ≡ false → told ≡ old_told ++ said.WaitsFor set ∷ []
         → Moves S.stands w m (defining w.run.dialect w.run.opening w.run.made m.history.open_ [] entry m) new r old_told told made made }
 {}
 
-/// A definition that is committed by `Store::define`, where no transaction is open, changes no session.
+/// A definition that is committed by `Store::define`, where no transaction is open, changes no session. The model is the one that it
+/// leaves, and no claims of commits are kept behind it.
 pub fn a_definition_changes_no_session<S: Store>()
     ensures { (w : World) (k : Kept) (old new : Parts S) (session : ℕ) (definition : Definition) → Rests old w k → IsQuiet old.holding → new.holding ≡ old.holding → new.seated ≡ old.seated → new.commits ≡ old.commits + 1
-        → control_after definition k.kind ≡ Locks → S.stands new.store w (k.commits ++ definition_commit session definition ∷ []) []
+        → new.spans.kind ≡ control_after definition k.kind → new.spans.made ≡ old.spans.made → new.spans.count ≡ old.spans.count + 1 → new.spans.first ≡ new.spans.count → new.spans.claims ≡ []
+        → S.stands new.store w (k.commits ++ definition_commit session definition ∷ []) []
         → Fits S.stands new w (record k { kind = control_after definition k.kind; commits = k.commits ++ definition_commit session definition ∷ [] }) }
 {}
 
@@ -172,16 +173,16 @@ pub fn what_sessions_hold_tells_who_is_in_the_way()
 /// Where a session begins to wait by `Holding::wait`, or waits no more by `Holding::answer`, only that is changed.
 pub fn waits_change_no_rows<S: Store>()
     ensures waits { (w : World) (k : Kept) (old new : Parts S) (s n : ℕ) (set : Blockers) → IsHere old s → Rests old w k → ((b : ℕ) → IsSession b → has set b ≡ true → b ≤ n) → IsHeldUp old.holding new.holding s set
-        → new.seated ≡ old.seated → new.commits ≡ old.commits → S.stands new.store w k.commits (changes_of old old.seated.0) → Fits S.stands new w (with_waits (waits_for s (filter (has set) (ascending 1 n)) k.waits) k) }
+        → new.seated ≡ old.seated → new.commits ≡ old.commits → new.spans ≡ old.spans → S.stands new.store w k.commits (changes_of old old.seated.0) → Fits S.stands new w (with_waits (waits_for s (filter (has set) (ascending 1 n)) k.waits) k) }
     ensures answered { (w : World) (k : Kept) (old new : Parts S) (s : ℕ) → IsHere old s → Rests old w k → IsAnswered old.holding new.holding s
-        → new.seated ≡ old.seated → new.commits ≡ old.commits → S.stands new.store w k.commits (changes_of old old.seated.0) → Fits S.stands new w (with_waits (answered s k.waits) k) }
+        → new.seated ≡ old.seated → new.commits ≡ old.commits → new.spans ≡ old.spans → S.stands new.store w k.commits (changes_of old old.seated.0) → Fits S.stands new w (with_waits (answered s k.waits) k) }
 {}
 
 /// A new session, by `Holding::admit` at the level that `Store::level` answers, has no open transaction and waits for
 /// nobody.
 pub fn a_new_session_has_the_default_level<S: Store>()
     ensures stands { (w : World) (side : Side) (old new : Parts S) (level : Isolation) → Rests old w (kept_of side) → length side.settings < 64 → level ≡ (present w side.history.commits).level → IsAdmitted level old.holding new.holding
-        → new.seated ≡ old.seated → new.commits ≡ old.commits → S.stands new.store w side.history.commits (changes_of old old.seated.0) → Fits S.stands new w (kept_of (with_new w.run side)) }
+        → new.seated ≡ old.seated → new.commits ≡ old.commits → new.spans ≡ old.spans → S.stands new.store w side.history.commits (changes_of old old.seated.0) → Fits S.stands new w (kept_of (with_new w.run side)) }
     ensures ways { (w : World) (side : Side) → Ways (length side.settings) side.waits → Ways (length (with_new w.run side).settings) (with_new w.run side).waits }
 {}
 
@@ -200,7 +201,7 @@ pub fn closing_rolls_back_the_open_transaction<S: Store>()
 /// first attempt, or waits on, leaves the waits as its attempt has them.
 pub fn a_waiter_that_is_answered_waits_for_nobody<S: Store>()
     ensures answered { (w : World) (side : Side) (old new : Parts S) (s : ℕ) → IsHere old s → Rests old w (kept_of side) → IsAnswered old.holding new.holding s
-        → new.seated ≡ old.seated → new.commits ≡ old.commits → S.stands new.store w side.history.commits (changes_of old old.seated.0) → Fits S.stands new w (kept_of (answered_by false true s side)) }
+        → new.seated ≡ old.seated → new.commits ≡ old.commits → new.spans ≡ old.spans → S.stands new.store w side.history.commits (changes_of old old.seated.0) → Fits S.stands new w (kept_of (answered_by false true s side)) }
     ensures first { (w : World) (side : Side) (new : Parts S) (s : ℕ) (final : Bool) → Fits S.stands new w (kept_of side) → Fits S.stands new w (kept_of (answered_by true final s side)) }
     ensures unanswered { (w : World) (side : Side) (new : Parts S) (s : ℕ) (is_first : Bool) → Fits S.stands new w (kept_of side) → Fits S.stands new w (kept_of (answered_by is_first false s side)) }
     ensures ways { (is_first final : Bool) (s n : ℕ) (side : Side) → Ways n side.waits → Ways n (answered_by is_first final s side).waits }

@@ -1,46 +1,28 @@
 -- What a data statement makes of what is kept.
-use Rattle.std.proofs.Common.{◌≡◌, ◌==◌, Bool, true, false, List, [], drop, refl, sym, ap, ap₂, ◌∙◌, eq-eqb}
+use Rattle.std.proofs.Common.{◌≡◌, ℕ, ◌==◌, Bool, true, false, List, refl, ap, ap₂, ◌∙◌, eq-eqb}
 use Rattle.std.specs.Prelude.{if◌then◌else◌}
-use Rattle.hs_ast.specs.declared.session.Isolation.{Isolation}
-use Rattle.hs_ast.specs.declared.session.Isolation.TheVariants.{ReadCommitted, RepeatableRead, Serializable}
-use Rattle.hs_claims.specs.declared.footprint.Footprint.{Footprint}
-use Rattle.hs_claims.specs.declared.model.ControlKind.{ControlKind}
-use Rattle.hs_claims.specs.declared.model.ControlKind.TheVariants.{Locks}
-use Rattle.hs_sessions.specs.Modes.{level_of}
-use Rattle.hs_turns.specs.Database.{has_room}
+use Rattle.hs_turns.specs.Database.{Database, has_room}
 use Rattle.hs_turns.specs.Events.{commit_by, finish, goes_on, judged, stays_open}
 use Rattle.hs_turns.specs.Events.{Act as act}
-use Rattle.hs_turns.specs.Histories.{Commit, History, Open, commit_of, is_free, is_snap, newer, no_conflict, now, others}
+use Rattle.hs_turns.specs.Histories.{History, Open, commit_of, is_free, now, others}
 use Rattle.hs_seams.specs.World.{World}
 use Rattle.hs_sides.specs.Sides.{side_of}
 use Rattle.hs_turns.specs.Attempts.{Empty, Fits as HasRoom, TooManyChanges, data_event, ending_of, takes}
 use Rattle.hs_turns.specs.Machine.{Machine, happens}
 use Rattle.hs_turns.specs.Waiting.{Entry}
 use Rattle.hs_turns.proofs.Opened.{own_session}
-use Rattle.hs_sessions.specs.Settings.{modes_of}
-use Rattle.hs_holding.specs.declared.seat.Own.{Own}
-use Rattle.hs_holding.specs.declared.seat.Seat.{Seat}
-use Rattle.hs_tied.specs.Holds.{IsOwn}
 use Rattle.hs_tied.specs.Kept.{Kept, left, used}
 use Rattle.hs_tied.proofs.Lists.{others_put}
 use Rattle.hs_moves.specs.Begun.{ended_with, kept_after}
-use Rattle.hs_moves.specs.Evaluated.{IsUnblocked, data_after, data_outcome, data_own}
+use Rattle.hs_moves.specs.Evaluated.{IsUnblocked, data_after, data_outcome, data_own, is_clear}
 use Rattle.hs_moves.specs.Fits.{kept_of}
 use Rattle.hs_moves.proofs.Steps.{empty_drops, many_refuse, room_keeps, takes_is}
 
--- no level of LOCKS is a snapshot's
-pub not_snap : (isolation : Isolation) → is_snap (level_of Locks isolation) ≡ false
-not_snap ReadCommitted = refl
-not_snap RepeatableRead = refl
-not_snap Serializable = refl
-
--- nor is one that a session has, or would begin
-pub own_not_snap : (seat : Seat) (o : Open) → IsOwn seat o → is_snap o.level ≡ false
-own_not_snap seat o i = ap (λ (x : Own). is_snap x.level) (sym i.own) ∙ not_snap (modes_of seat.session).isolation
-
--- so no commit conflicts
-pub no_conflicts : (kind : ControlKind) (o : Open) (foot : Footprint) (commits : List Commit) → is_snap o.level ≡ false → no_conflict kind o foot (newer commits o) ≡ true
-no_conflicts kind o foot commits e = ap (λ (b : Bool). no_conflict kind o foot (if b then drop o.start commits else [])) e
+-- one that is held up is held up whatever conflicts
+held_any : (clear back : Bool) (opening : Database) (before after : Open) (who : ℕ) (h : History) → judged false clear back opening before after who h ≡ judged false true back opening before after who h
+held_any true back opening before after who h = refl
+held_any false true opening before after who h = refl
+held_any false false opening before after who h = refl
 
 module _ (w : World) (m : Machine) (entry : Entry) where
   mine : ((data_own w m entry).session == entry.session) ≡ true
@@ -50,10 +32,10 @@ module _ (w : World) (m : Machine) (entry : Entry) where
   pub left_after : left entry.session (kept_after w m entry) ≡ ended_with w m entry m.history.commits
   left_after = ap (λ (os : List Open). let x : Kept = record (ended_with w m entry m.history.commits) { open_ = os } in x) (others_put entry.session (data_after w m entry) mine m.history.open_)
 
-  module _ (clear : no_conflict m.history.kind (data_own w m entry) (data_outcome w m entry).foot (newer m.history.commits (data_own w m entry)) ≡ true) where
-    abbrev behind : History → Machine
-    behind x = record m { history = x; settings = used entry.session (kept_of (side_of m)) }
+  abbrev behind : History → Machine
+  behind x = record m { history = x; settings = used entry.session (kept_of (side_of m)) }
 
+  module _ (clear : is_clear w m entry ≡ true) where
     -- ---- nobody is in the way
 
     module _ (free : IsUnblocked w m entry (data_outcome w m entry).foot) where
@@ -82,12 +64,20 @@ module _ (w : World) (m : Machine) (entry : Entry) where
         pub auto_many : ending_of w.run.dialect w.run.opening w.run.made m (commit_of (data_after w m entry)) ≡ TooManyChanges → takes w.run.dialect w.run.opening w.run.made (data_event w.run.dialect w.run.opening w.run.made m entry false) m ≡ behind (finish false (data_own w m entry) entry.session m.history)
         auto_many e = takes_auto ∙ ap behind (many_refuse (data_after w m entry) entry.session m.history (finish false (data_own w m entry) entry.session m.history) (data_after w m entry).trace.changes (has_room (now w.run.opening m.history.commits) (data_after w m entry).trace.changes) (w.run.dialect.has_log_room m.history.commits (commit_of (data_after w m entry))) e)
 
-    -- ---- somebody is in the way
+  -- ---- somebody is in the way
 
-    pub held_goes : (back : Bool) → is_free m.history.kind (data_own w m entry) (data_outcome w m entry).foot (others entry.session m.history.open_) ≡ false
-        → takes w.run.dialect w.run.opening w.run.made (data_event w.run.dialect w.run.opening w.run.made m entry back) m ≡ behind (judged false true back w.run.opening (data_own w m entry) (data_after w m entry) entry.session m.history)
-    held_goes back blocked = takes_is w m (data_event w.run.dialect w.run.opening w.run.made m entry back)
-        ∙ ap behind (ap₂ (λ (f c : Bool). judged f c back w.run.opening (data_own w m entry) (data_after w m entry) entry.session m.history) blocked clear)
+  pub held_goes : (back : Bool) → is_free m.history.kind (data_own w m entry) (data_outcome w m entry).foot (others entry.session m.history.open_) ≡ false
+      → takes w.run.dialect w.run.opening w.run.made (data_event w.run.dialect w.run.opening w.run.made m entry back) m ≡ behind (judged false true back w.run.opening (data_own w m entry) (data_after w m entry) entry.session m.history)
+  held_goes back blocked = takes_is w m (data_event w.run.dialect w.run.opening w.run.made m entry back)
+      ∙ ap behind (ap (λ (f : Bool). judged f (is_clear w m entry) back w.run.opening (data_own w m entry) (data_after w m entry) entry.session m.history) blocked
+      ∙ held_any (is_clear w m entry) back w.run.opening (data_own w m entry) (data_after w m entry) entry.session m.history)
+
+  -- ---- a commit conflicts
+
+  pub conflict_goes : IsUnblocked w m entry (data_outcome w m entry).foot → is_clear w m entry ≡ false
+      → takes w.run.dialect w.run.opening w.run.made (data_event w.run.dialect w.run.opening w.run.made m entry false) m ≡ behind (finish false (data_own w m entry) entry.session m.history)
+  conflict_goes free conflicts = takes_is w m (data_event w.run.dialect w.run.opening w.run.made m entry false)
+      ∙ ap behind (ap₂ (λ (f c : Bool). judged f c false w.run.opening (data_own w m entry) (data_after w m entry) entry.session m.history) free conflicts)
 
   -- one that is refused for its commit leaves nothing
   pub leaves_full : takes w.run.dialect w.run.opening w.run.made (record (data_event w.run.dialect w.run.opening w.run.made m entry false) { act = act.Leaves }) m

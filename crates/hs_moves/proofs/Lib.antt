@@ -9,4 +9,5 @@ pub mod Attempted
 pub mod Defining
 pub mod Starting
 pub mod Seating
+pub mod Spanned
 pub mod Behind

@@ -5,7 +5,7 @@ use Rattle.std.specs.Option.{option_map}
 use Rattle.hs_base.specs.declared.numbers.CommitNo.{CommitNo}
 use Rattle.hs_plan.specs.declared.change.Change.{Change}
 use Rattle.hs_turns.specs.Events.{finish}
-use Rattle.hs_turns.specs.Histories.{Commit, History, commit_of, is_free, newer, no_conflict, others, put_open}
+use Rattle.hs_turns.specs.Histories.{Commit, History, commit_of, is_free, others, put_open}
 use Rattle.hs_lines.specs.Told.{words_of}
 use Rattle.hs_lines.specs.declared.words.Words.{Words as Said}
 use Rattle.hs_lines.specs.declared.words.Words.TheVariants as said
@@ -15,7 +15,7 @@ use Rattle.hs_schema.specs.Catalogue.{Text}
 use Rattle.hs_seams.specs.declared.attempted.Attempted.{Attempted}
 use Rattle.hs_seams.specs.World.{World}
 use Rattle.hs_sides.specs.Sides.{side_of}
-use Rattle.hs_turns.specs.Attempts.{Attempt, Ending, Empty, Fits as HasRoom, TooManyChanges, LogFull, auto_ended, deadlock_words, ending_of, held_up_data, newest, next_number, went_on}
+use Rattle.hs_turns.specs.Attempts.{Attempt, Ending, Empty, Fits as HasRoom, TooManyChanges, LogFull, auto_ended, data_event, deadlock_words, ending_of, held_up_data, newest, next_number, refuses, takes, went_on}
 use Rattle.hs_turns.specs.Dialect.{refused_words}
 use Rattle.hs_turns.specs.Lines.{Words, Replies, WaitsFor, told as told_by}
 use Rattle.hs_turns.specs.Machine.{Machine, ends, name_of}
@@ -24,14 +24,13 @@ use Rattle.hs_tied.specs.Kept.{Kept, used, with_waits}
 use Rattle.hs_moves.specs.Parts.{Parts}
 use Rattle.hs_moves.specs.Answers.{outcome_told}
 use Rattle.hs_moves.specs.Begun.{ended_with, kept_after}
-use Rattle.hs_moves.specs.Evaluated.{IsUnblocked, data_after, data_outcome, data_own}
+use Rattle.hs_moves.specs.Evaluated.{IsUnblocked, data_after, data_outcome, data_own, is_clear}
 use Rattle.hs_moves.specs.Fits.{Fits, kept_of}
 use Rattle.hs_moves.specs.Moves.{Makes, Moves}
-use Rattle.hs_moves.proofs.Going.{auto_done, auto_empty, auto_many, goes_open, held_goes, leaves_full}
+use Rattle.hs_moves.proofs.Going.{auto_done, auto_empty, auto_many, conflict_goes, goes_open, held_goes, leaves_full}
 use Rattle.hs_moves.proofs.Texts.{makes_none, makes_one, rows_told, said_one}
 
-module _ {S : Type 0} (At : S → World → List Commit → List Change → Type 0) (w : World) (m : Machine) (new : Parts S) (r : Attempted) (told told' : List Said) (entry : Entry)
-    (clear : no_conflict m.history.kind (data_own w m entry) (data_outcome w m entry).foot (newer m.history.commits (data_own w m entry)) ≡ true) where
+module _ {S : Type 0} (At : S → World → List Commit → List Change → Type 0) (w : World) (m : Machine) (new : Parts S) (r : Attempted) (told told' : List Said) (entry : Entry) where
   abbrev M : Attempt → List (List ℕ) → List (List ℕ) → Type 0
   M a old made = Moves At w m a new r told told' old made
 
@@ -40,7 +39,7 @@ module _ {S : Type 0} (At : S → World → List Commit → List Change → Type
 
   -- ---- nobody is in its way
 
-  module _ (free : IsUnblocked w m entry (data_outcome w m entry).foot) (rows : List Text) (reply : Text) (rows_are : rows ≡ (data_outcome w m entry).rows) (reply_is : reply ≡ (data_outcome w m entry).reply) where
+  module _ (clear : is_clear w m entry ≡ true) (free : IsUnblocked w m entry (data_outcome w m entry).foot) (rows : List Text) (reply : Text) (rows_are : rows ≡ (data_outcome w m entry).rows) (reply_is : reply ≡ (data_outcome w m entry).reply) where
     words_by : (commit : Option CommitNo) (number : Option ℕ) → option_map (λ c. c.0) commit ≡ number → told' ≡ outcome_told told rows reply commit
         → map (words_of m.names) told' ≡ map (words_of m.names) told ++ newest w.run.dialect w.run.opening w.run.made (data_after w m entry) number
     words_by commit number same is = rows_told m.names told told' rows reply commit is
@@ -103,13 +102,27 @@ module _ {S : Type 0} (At : S → World → List Commit → List Change → Type
           (without (Replies (refused_words (codes "log full")) None ∷ []) (finish false (data_own w m entry) entry.session m.history) refl refl refl fits same
           (said_one m.names told told' (said.Reply (refused_words (codes "log full")) None) (Replies (refused_words (codes "log full")) None) is refl))
 
+  -- ---- a commit conflicts
+
+  pub conflicts : IsUnblocked w m entry (data_outcome w m entry).foot → is_clear w m entry ≡ false → (why : Text) → Fits At new w (ended_with w m entry m.history.commits) → r.is_final ≡ true → r.has_ended ≡ true → told' ≡ told ++ said.Reply (refused_words why) None ∷ []
+      → M (refuses [] why (ends entry.session (takes w.run.dialect w.run.opening w.run.made (data_event w.run.dialect w.run.opening w.run.made m entry false) m))) [] []
+  conflicts free none why fits final ended is =
+      subst (λ (n : Machine). M (record { words = Replies (refused_words why) None ∷ []; final = true; next = ends entry.session n }) [] []) (sym (conflict_goes w m entry free none))
+      (record {
+        fits = fits;
+        words = said_one m.names told told' (said.Reply (refused_words why) None) (Replies (refused_words why) None) is refl;
+        final = final;
+        ended = ap (λ (b : Bool). b || m.again) (sym ended);
+        makes = makes_none w m.history.commits [];
+      })
+
   -- ---- somebody is in its way
 
   module _ (blocked : is_free m.history.kind (data_own w m entry) (data_outcome w m entry).foot (others entry.session m.history.open_) ≡ false) (list : List ℕ) where
     pub deadlocks : (back : ℕ) → Fits At new w (ended_with w m entry m.history.commits) → r.is_final ≡ true → r.has_ended ≡ true → told' ≡ told ++ said.Reply (refused_words (deadlock_words m back)) None ∷ []
         → M (held_up_data w.run.dialect w.run.opening w.run.made (Some back) list entry m) [] []
     deadlocks back fits final ended is =
-        subst (λ (n : Machine). M (record { words = Replies (refused_words (deadlock_words m back)) None ∷ []; final = true; next = ends entry.session n }) [] []) (sym (held_goes w m entry clear true blocked))
+        subst (λ (n : Machine). M (record { words = Replies (refused_words (deadlock_words m back)) None ∷ []; final = true; next = ends entry.session n }) [] []) (sym (held_goes w m entry true blocked))
         (record {
           fits = fits;
           words = said_one m.names told told' (said.Reply (refused_words (deadlock_words m back)) None) (Replies (refused_words (deadlock_words m back)) None) is refl;
@@ -121,7 +134,7 @@ module _ {S : Type 0} (At : S → World → List Commit → List Change → Type
     pub waits : (set : Blockers) → Fits At new w (with_waits (waits_for entry.session list m.waits) (record (kept_of (side_of m)) { open_ = put_open entry.session (data_own w m entry) m.history.open_; settings = used entry.session (kept_of (side_of m)) }))
         → list ≡ filter (has set) (ascending 1 (length m.names)) → r.is_final ≡ false → r.has_ended ≡ false → told' ≡ told ++ said.WaitsFor set ∷ [] → M (held_up_data w.run.dialect w.run.opening w.run.made None list entry m) [] []
     waits set fits are final ended is =
-        subst (λ (n : Machine). M (record { words = WaitsFor (map (name_of n) list) ∷ []; final = false; next = record n { waits = waits_for entry.session list n.waits } }) [] []) (sym (held_goes w m entry clear false blocked))
+        subst (λ (n : Machine). M (record { words = WaitsFor (map (name_of n) list) ∷ []; final = false; next = record n { waits = waits_for entry.session list n.waits } }) [] []) (sym (held_goes w m entry false blocked))
         (record {
           fits = fits;
           words = said_one m.names told told' (said.WaitsFor set) (WaitsFor (map (name_of m) list)) is (ap (λ (l : List ℕ). WaitsFor (map (name_of m) l)) (sym are));

@@ -31,7 +31,9 @@ use Rattle.hs_moves.specs.Parts.{Parts}
 use Rattle.hs_moves.specs.Fits.{Fits, kept_of}
 use Rattle.hs_moves.specs.Moves.{Makes, Moves}
 use Rattle.hs_moves.specs.Refused.{IsRefused}
+use Rattle.hs_moves.specs.Spanned.{IsLent, IsSince}
 use Rattle.hs_moves.proofs.Ended.{stays, leaves}
+use Rattle.hs_moves.proofs.Spanned.{spanned_put}
 use Rattle.hs_moves.proofs.Texts.{makes_none, said_one}
 
 module _ {S : Type 0} (At : S → World → List Commit → List Change → Type 0) (w : World) (m : Machine) (new : Parts S) (r : Attempted) (told told' : List Said) (entry : Entry) (why : Text) (is_refused : IsRefused w m entry why)
@@ -88,10 +90,22 @@ module _ {S : Type 0} (At : S → World → List Commit → List Change → Type
     pub refused_open : o.auto ≡ false → r.has_ended ≡ false → IsNumber (length m.settings) entry.session → Fits At new w (kept_of (side_of m)) → InPlace
     refused_open off ended number fits =
         let holds = fits.rests.holds in
-        let it = found_each (IsKept new.holding (length m.settings)) entry.session o m.history.open_ found holds.open_ in
-        let noted = noted_holds new.holding (kept_of (side_of m)) holds entry.session number o after it.0 it.1 it.1 refl
+        let it = found_each (IsKept m.history.kind new.holding (length m.settings)) entry.session o m.history.open_ found holds.open_ in
+        let spanned = fits.rests.spanned in
+        let lent = found_each (IsLent new.spans.live m.history.kind (length m.history.commits)) entry.session o m.history.open_ found spanned.lent in
+        let since = found_each (IsSince new.spans.first) entry.session o m.history.open_ found spanned.since in
+        let noted = noted_holds new.holding (kept_of (side_of m)) holds entry.session number o after it.0 it.1 it.1 refl refl
         (ap (λ (x : Outcome). o.trace.changes ++ x.changes) (is_refused o found) ∙ append-nil o.trace.changes) refl (ap (λ (x : Outcome). x.foot ∷ o.trace.feet) (is_refused o found)) in
-        let now : Fits At new w (put entry.session after (kept_of (side_of m))) = record { store = fits.store; rests = record { holds = noted; seat = fits.rests.seat; count = fits.rests.count; few = fits.rests.few } } in
+        let now : Fits At new w (put entry.session after (kept_of (side_of m))) = record {
+          store = fits.store;
+          rests = record {
+            holds = noted;
+            seat = fits.rests.seat;
+            count = fits.rests.count;
+            few = fits.rests.few;
+            spanned = spanned_put new.spans w.run.made m.history.kind m.history.commits m.history.open_ spanned entry.session after (record { begun = lent.0.begun; lent = lent.0.lent }) since.0;
+          };
+        } in
         subst Found (sym found)
         (subst (λ (b : Bool). Moves At w m (record {
           words = if b then Replies (refused_words why) None ∷ [] else newest_by w.run.dialect w.run.opening w.run.made after.statements after.trace.replies None;

@@ -1,10 +1,11 @@
 -- A data statement that was evaluated.
-use Rattle.std.specs.Prelude.{◌≡◌, None, true, false, List}
+use Rattle.std.specs.Prelude.{◌≡◌, Bool, None, true, false, List}
 use Rattle.hs_changes.specs.Changes.{count_all_inserted}
 use Rattle.hs_claims.specs.declared.claim.Claim.{Claim}
 use Rattle.hs_claims.specs.Wants.{wants_of}
 use Rattle.hs_claims.specs.declared.footprint.Footprint.{Footprint}
-use Rattle.hs_turns.specs.Histories.{Open, base, is_free, others}
+use Rattle.hs_turns.specs.Database.{view}
+use Rattle.hs_turns.specs.Histories.{History, Open, base, is_free, newer, no_conflict, others}
 use Rattle.hs_turns.specs.Events.{said}
 use Rattle.hs_turns.specs.Language.{Outcome}
 use Rattle.hs_turns.specs.Transactions.Statement.{Data}
@@ -13,6 +14,10 @@ use Rattle.hs_turns.specs.Attempts.{data_event, own_of, seen_by}
 use Rattle.hs_turns.specs.Dialect.{language_of}
 use Rattle.hs_turns.specs.Machine.{Machine}
 use Rattle.hs_turns.specs.Waiting.{Entry}
+
+-- what a transaction reads is valid, with its changes on it
+abbrev pub IsValidFor : World → History → Open → Type 0
+IsValidFor w h o = w.run.dialect.is_valid (view (base h.kind w.run.opening h.commits o) o.trace.changes) ≡ true
 
 -- the transaction of a data statement, open or begun with it
 abbrev pub data_own : World → Machine → Entry → Open
@@ -29,6 +34,10 @@ data_after w m entry = let o = data_own w m entry in said (language_of w.run.dia
 -- nobody is in its way
 abbrev pub IsUnblocked : World → Machine → Entry → Footprint → Type 0
 IsUnblocked w m entry foot = is_free m.history.kind (data_own w m entry) foot (others entry.session m.history.open_) ≡ true
+
+-- whether no commit since its start conflicts with it
+abbrev pub is_clear : World → Machine → Entry → Bool
+is_clear w m entry = no_conflict m.history.kind (data_own w m entry) (data_outcome w m entry).foot (newer m.history.commits (data_own w m entry))
 
 -- it isn't refused at once
 abbrev pub IsAccepted : World → Machine → Entry → Type 0

@@ -10,6 +10,7 @@ use Rattle.hs_holding.specs.Held.{IsSeat, seat_of}
 use Rattle.hs_tied.specs.Holds.{Holds}
 use Rattle.hs_tied.specs.Kept.{Kept}
 use Rattle.hs_moves.specs.Parts.{Parts}
+use Rattle.hs_moves.specs.Spanned.{IsSpanned}
 
 -- the changes of a session's open transaction
 abbrev pub changes_of : {S : Type 0} → Parts S → ℕ → List Change
@@ -29,6 +30,7 @@ pub record Rests {S : Type 0} (t : Parts S) (w : World) (k : Kept) : Type 0 wher
   pub seat : IsSession t.seated.0
   pub count : t.commits ≡ w.run.made + length k.commits
   pub few : w.run.made + length k.commits ≤ (present w k.commits).count
+  pub spanned : IsSpanned t.spans w.run.made k.kind k.commits k.open_
 
 -- so does the store, with the changes of the seated session
 pub record Fits {S : Type 0} (At : S → World → List Commit → List Change → Type 0) (t : Parts S) (w : World) (k : Kept) : Type 0 where

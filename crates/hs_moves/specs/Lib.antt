@@ -1,4 +1,5 @@
 pub mod Parts
+pub mod Spanned
 pub mod Fits
 pub mod Called
 pub mod Moves

@@ -1,31 +1,27 @@
 //! Laws of what entries come to, each on a function that does nothing.
 ghost use Rattle.std.specs.Prelude.{◌≡◌, ◌≤◌, ◌<◌, ◌+◌, ◌^◌, ◌==◌, ℕ, Bool, true, false, List, [], ◌∷◌, ◌++◌, None, Some, Ok, Err, length, filter, codes};
-ghost use Rattle.hs_ast.specs.declared.session.Isolation.{Isolation};
 ghost use Rattle.hs_ast.specs.declared.session.Modes.{Modes as NewModes};
 ghost use Rattle.hs_base.specs.declared.numbers.CommitNo.{CommitNo};
 ghost use Rattle.hs_claims.specs.declared.blockers.Blockers.{Blockers};
-ghost use Rattle.hs_claims.specs.declared.model.ControlKind.TheVariants.{Locks};
 ghost use Rattle.hs_claims.specs.Blockers.{has};
 ghost use Rattle.hs_claims.specs.Session.{IsSession};
 ghost use Rattle.hs_turns.specs.Database.{has_room};
 ghost use Rattle.hs_turns.specs.Definitions.{control_after};
 ghost use Rattle.hs_turns.specs.Events.{Event, definition_commit, fresh};
-ghost use Rattle.hs_turns.specs.Histories.{Commit, History, Open, commit_of, is_snap, own};
+ghost use Rattle.hs_turns.specs.Histories.{Commit, History, Open, commit_of, others, own};
 ghost use Rattle.hs_holding.specs.declared.holding.Holding.{Holding};
-ghost use Rattle.hs_holding.specs.declared.seat.Seat.{Seat};
 ghost use Rattle.hs_holding.specs.Held.{IsNumber, is_open_at};
 ghost use Rattle.hs_lines.specs.declared.words.Words.{Words as Said};
 ghost use Rattle.hs_plan.specs.declared.change.Change.{Change};
 ghost use Rattle.hs_plan.specs.declared.definition.Definition.{Definition};
 ghost use Rattle.hs_schema.specs.Catalogue.{Text};
 ghost use Rattle.hs_seams.specs.declared.attempted.Attempted.{Attempted};
-ghost use Rattle.hs_seams.specs.Stores.{IsWorld, present, seen};
+ghost use Rattle.hs_seams.specs.Stores.{IsWorld, present};
 ghost use Rattle.hs_seams.specs.World.{World, texts_since};
-ghost use Rattle.hs_sessions.specs.Modes.{level_of};
 ghost use Rattle.hs_sides.specs.Sides.{Side, attempted, side_of};
-ghost use Rattle.hs_tied.specs.Holds.{Holds, IsOwn};
+ghost use Rattle.hs_tied.specs.Holds.{Holds};
 ghost use Rattle.hs_tied.specs.Kept.{Kept, committed, left, opened, with_waits};
-ghost use Rattle.hs_turns.specs.Attempts.{Empty, Fits as HasRoom, LogFull, TooManyChanges, attempt_commit, attempt_data, attempt_rollback, attempt_start, blockers, deadlock_words, defined, held_up, leading_back, named, next_number, refused_in_place};
+ghost use Rattle.hs_turns.specs.Attempts.{Empty, Fits as HasRoom, LogFull, TooManyChanges, attempt_commit, attempt_data, attempt_rollback, attempt_start, blockers, conflict_words, deadlock_words, defined, held_up, leading_back, named, next_number, refused_in_place};
 ghost use Rattle.hs_turns.specs.Dialect.{open_transaction};
 ghost use Rattle.hs_turns.specs.Laws.{IsHistory};
 ghost use Rattle.hs_turns.specs.Machine.{Machine, is_open, open_of};
@@ -35,11 +31,12 @@ ghost use Rattle.hs_tied.specs.Waiting.{Ways};
 ghost use Rattle.hs_moves.specs.Answers.{IsLeft, ok_told, outcome_told, refusal_told};
 ghost use Rattle.hs_moves.specs.Begun.{ended_with, kept_after, kept_waiting};
 ghost use Rattle.hs_moves.specs.Called.{IsBegun, IsEnded};
-ghost use Rattle.hs_moves.specs.Evaluated.{IsAccepted, IsBlocked, IsUnblocked, data_after, data_outcome, data_own, data_wanted};
+ghost use Rattle.hs_moves.specs.Evaluated.{IsAccepted, IsBlocked, IsUnblocked, IsValidFor, data_after, data_outcome, data_own, data_wanted, is_clear};
 ghost use Rattle.hs_moves.specs.Fits.{Fits, IsHere, Rests, changes_of, kept_of};
 ghost use Rattle.hs_moves.specs.Moves.{Makes, Moves, ending_in};
 ghost use Rattle.hs_moves.specs.Parts.{Parts};
 ghost use Rattle.hs_moves.specs.Refused.{IsRefused};
+ghost use Rattle.hs_moves.specs.Spanned.{IsSpanned};
 ghost use Rattle.hs_lines.specs.declared.words.Words.TheVariants as said;
 ghost use Rattle.hs_plan.specs.declared.change.Change.TheVariants as change;
 
@@ -101,51 +98,54 @@ pub fn an_entry_is_refused_in_its_place<S: Store>()
         → Moves S.stands w m (refused_in_place w.run.dialect w.run.opening w.run.made entry why m) new r old told [] [] }
 {}
 
-/// Under LOCKS no level of a transaction reads a snapshot, and so none that a session has or would begin.
-pub fn transactions_of_locks_read_no_snapshot()
-    ensures levels { (isolation : Isolation) → is_snap (level_of Locks isolation) ≡ false }
-    ensures own { (seat : Seat) (o : Open) → IsOwn seat o → is_snap o.level ≡ false }
-{}
-
 /// A data statement that nobody is in the way of tells its rows and its reply, and its transaction goes on with its changes and its
 /// claims. In autocommit the transaction ends with it: the changes are committed where they find room, and the reply has the number
-/// of the commit; else the statement is refused, and nothing of it is left. It reads no snapshot.
+/// of the commit; else the statement is refused, and nothing of it is left. No commit since
+/// its transaction's start conflicts with it.
 pub fn a_data_statement_goes_on_where_nobody_is_in_its_way<S: Store>()
     ensures open_ { (w : World) (m : Machine) (new : Parts S) (r : Attempted) (old told : List Said) (entry : Entry) (made : List (List ℕ)) → IsAccepted w m entry
-        → is_snap (data_own w m entry).level ≡ false → IsUnblocked w m entry (data_outcome w m entry).foot → (data_own w m entry).auto ≡ false
+        → is_clear w m entry ≡ true → IsUnblocked w m entry (data_outcome w m entry).foot → (data_own w m entry).auto ≡ false
         → IsLeft S.stands w (kept_after w m entry) new r true false told (outcome_told old (data_outcome w m entry).rows (data_outcome w m entry).reply None)
         → Moves S.stands w m (attempt_data w.run.dialect w.run.opening w.run.made entry m) new r old told made made }
     ensures unchanged { (w : World) (m : Machine) (new : Parts S) (r : Attempted) (old told : List Said) (entry : Entry) (old_made made : List (List ℕ)) → IsAccepted w m entry
-        → is_snap (data_own w m entry).level ≡ false → IsUnblocked w m entry (data_outcome w m entry).foot → (data_own w m entry).auto ≡ true → ending_in w m (data_after w m entry) ≡ Empty
+        → is_clear w m entry ≡ true → IsUnblocked w m entry (data_outcome w m entry).foot → (data_own w m entry).auto ≡ true → ending_in w m (data_after w m entry) ≡ Empty
         → IsLeft S.stands w (ended_with w m entry m.history.commits) new r true true told (outcome_told old (data_outcome w m entry).rows (data_outcome w m entry).reply None) → made ≡ old_made
         → Moves S.stands w m (attempt_data w.run.dialect w.run.opening w.run.made entry m) new r old told old_made made }
     ensures committed { (w : World) (m : Machine) (new : Parts S) (r : Attempted) (old told : List Said) (entry : Entry) (old_made made : List (List ℕ)) (number : ℕ) → IsAccepted w m entry
-        → is_snap (data_own w m entry).level ≡ false → IsUnblocked w m entry (data_outcome w m entry).foot → (data_own w m entry).auto ≡ true → ending_in w m (data_after w m entry) ≡ HasRoom
+        → is_clear w m entry ≡ true → IsUnblocked w m entry (data_outcome w m entry).foot → (data_own w m entry).auto ≡ true → ending_in w m (data_after w m entry) ≡ HasRoom
         → number ≡ next_number w.run.dialect w.run.opening w.run.made m
         → IsLeft S.stands w (ended_with w m entry (m.history.commits ++ commit_of (data_after w m entry) ∷ [])) new r true true told (outcome_told old (data_outcome w m entry).rows (data_outcome w m entry).reply (Some (record { 0 = number })))
         → made ≡ old_made ++ w.text m.history.commits (commit_of (data_after w m entry)) ∷ []
         → Moves S.stands w m (attempt_data w.run.dialect w.run.opening w.run.made entry m) new r old told old_made made }
     ensures many { (w : World) (m : Machine) (new : Parts S) (r : Attempted) (old told : List Said) (entry : Entry) (old_made made : List (List ℕ)) → IsAccepted w m entry
-        → is_snap (data_own w m entry).level ≡ false → IsUnblocked w m entry (data_outcome w m entry).foot → (data_own w m entry).auto ≡ true → ending_in w m (data_after w m entry) ≡ TooManyChanges
+        → is_clear w m entry ≡ true → IsUnblocked w m entry (data_outcome w m entry).foot → (data_own w m entry).auto ≡ true → ending_in w m (data_after w m entry) ≡ TooManyChanges
         → IsLeft S.stands w (ended_with w m entry m.history.commits) new r true true told (refusal_told old (codes "changes")) → made ≡ old_made
         → Moves S.stands w m (attempt_data w.run.dialect w.run.opening w.run.made entry m) new r old told old_made made }
     ensures full { (w : World) (m : Machine) (new : Parts S) (r : Attempted) (old told : List Said) (entry : Entry) (old_made made : List (List ℕ)) → IsAccepted w m entry
-        → is_snap (data_own w m entry).level ≡ false → IsUnblocked w m entry (data_outcome w m entry).foot → (data_own w m entry).auto ≡ true → ending_in w m (data_after w m entry) ≡ LogFull
+        → is_clear w m entry ≡ true → IsUnblocked w m entry (data_outcome w m entry).foot → (data_own w m entry).auto ≡ true → ending_in w m (data_after w m entry) ≡ LogFull
         → IsLeft S.stands w (ended_with w m entry m.history.commits) new r true true told (refusal_told old (codes "log full")) → made ≡ old_made
         → Moves S.stands w m (attempt_data w.run.dialect w.run.opening w.run.made entry m) new r old told old_made made }
 {}
 
 /// A data statement that others are in the way of waits for these, in an open transaction and without its changes. Where waits lead
-/// back to its session from one of them, it is refused, and its transaction ends. It reads no snapshot.
+/// back to its session from one of them, it is refused, and its transaction ends.
 pub fn a_data_statement_that_is_held_up_waits<S: Store>()
-    ensures deadlock { (w : World) (m : Machine) (new : Parts S) (r : Attempted) (old told : List Said) (entry : Entry) (back : ℕ) → IsAccepted w m entry → is_snap (data_own w m entry).level ≡ false
+    ensures deadlock { (w : World) (m : Machine) (new : Parts S) (r : Attempted) (old told : List Said) (entry : Entry) (back : ℕ) → IsAccepted w m entry
         → IsBlocked w m entry → leading_back m entry.session (blockers m entry.session (data_wanted w m entry)) ≡ Some back
         → IsLeft S.stands w (ended_with w m entry m.history.commits) new r true true told (refusal_told old (deadlock_words m back))
         → Moves S.stands w m (attempt_data w.run.dialect w.run.opening w.run.made entry m) new r old told [] [] }
     ensures waits { (w : World) (m : Machine) (new : Parts S) (r : Attempted) (old told : List Said) (entry : Entry) (set : Blockers) → IsAccepted w m entry
-        → is_snap (data_own w m entry).level ≡ false → IsBlocked w m entry → leading_back m entry.session (blockers m entry.session (data_wanted w m entry)) ≡ None
+        → IsBlocked w m entry → leading_back m entry.session (blockers m entry.session (data_wanted w m entry)) ≡ None
         → (blockers m entry.session (data_wanted w m entry)) ≡ filter (has set) (ascending 1 (length m.names))
         → IsLeft S.stands w (kept_waiting w m entry (blockers m entry.session (data_wanted w m entry))) new r false false told (old ++ said.WaitsFor set ∷ [])
+        → Moves S.stands w m (attempt_data w.run.dialect w.run.opening w.run.made entry m) new r old told [] [] }
+{}
+
+/// A data statement that nobody is in the way of, but that conflicts with a commit since the start of its transaction, is refused, and
+/// its transaction ends. The first such commit is told.
+pub fn a_data_statement_is_refused_where_a_commit_conflicts<S: Store>()
+    ensures { (w : World) (m : Machine) (new : Parts S) (r : Attempted) (old told : List Said) (entry : Entry) → IsAccepted w m entry → IsUnblocked w m entry (data_outcome w m entry).foot → is_clear w m entry ≡ false
+        → IsLeft S.stands w (ended_with w m entry m.history.commits) new r true true told (refusal_told old (conflict_words w.run.dialect w.run.opening w.run.made m (data_own w m entry) (data_wanted w m entry)))
         → Moves S.stands w m (attempt_data w.run.dialect w.run.opening w.run.made entry m) new r old told [] [] }
 {}
 
@@ -183,11 +183,13 @@ pub fn a_definition_that_is_held_up_waits<S: Store>()
         → Moves S.stands w m (held_up w.run.dialect w.run.opening w.run.made None list [] entry m) new r old told [] [] }
 {}
 
-/// In each state that a run comes to the database is valid, and so it is with the changes of any open transaction on it.
+/// In each state that a run comes to the database is valid, and so is what an open transaction reads, with its changes on it. The
+/// model of transactions is the database's.
 pub fn open_transactions_leave_a_valid_database()
     ensures alone { (w : World) → IsWorld w → (h : History) → IsHistory w.run.dialect w.run.opening h → w.run.dialect.is_valid (present w h.commits) ≡ true }
-    ensures with_its_changes { (w : World) → IsWorld w → (h : History) → IsHistory w.run.dialect w.run.opening h → h.kind ≡ Locks → (e : Event)
-        → w.run.dialect.is_valid (seen w h.commits (own e.session (fresh h.kind e (length h.commits)) h.open_).trace.changes) ≡ true }
+    ensures model { (w : World) → IsWorld w → (h : History) → IsHistory w.run.dialect w.run.opening h → h.kind ≡ (present w h.commits).control }
+    ensures with_its_changes { (w : World) → IsWorld w → (h : History) → IsHistory w.run.dialect w.run.opening h → (e : Event)
+        → IsValidFor w h (own e.session (fresh h.kind e (length h.commits)) h.open_) }
 {}
 
 /// A database has a change at least for each of its commits, and a number of 64 bits for each that finds room.
@@ -202,11 +204,12 @@ pub fn commits_have_numbers()
 /// Then the parts stand for what is kept without this transaction, and behind a commit with the commit.
 pub fn an_end_leaves_the_others<S: Store>()
     ensures own { (w : World) (k : Kept) (old new : Parts S) (s : ℕ) → IsHere old s → Rests old w k → IsEnded old.holding new.holding s → new.seated ≡ old.seated → old.seated.0 ≡ s
-        → new.commits ≡ old.commits → S.stands new.store w k.commits [] → Fits S.stands new w (left s k) }
+        → new.commits ≡ old.commits → new.spans ≡ old.spans → S.stands new.store w k.commits [] → Fits S.stands new w (left s k) }
     ensures other { (w : World) (k : Kept) (old new : Parts S) (s : ℕ) → IsHere old s → Rests old w k → IsEnded old.holding new.holding s → new.seated ≡ old.seated → (old.seated.0 == s) ≡ false
-        → new.commits ≡ old.commits → S.stands new.store w k.commits (changes_of old old.seated.0) → Fits S.stands new w (left s k) }
+        → new.commits ≡ old.commits → new.spans ≡ old.spans → S.stands new.store w k.commits (changes_of old old.seated.0) → Fits S.stands new w (left s k) }
     ensures committed { (w : World) (k : Kept) (old new : Parts S) (s : ℕ) → IsHere old s → Rests old w k → IsEnded old.holding new.holding s → new.seated ≡ old.seated → (o : Open) → old.seated.0 ≡ s
-        → o.session ≡ s → 1 ≤ length o.trace.changes → new.commits ≡ old.commits + 1 → S.stands new.store w (k.commits ++ commit_of o ∷ []) []
+        → o.session ≡ s → 1 ≤ length o.trace.changes → new.commits ≡ old.commits + 1 → IsSpanned new.spans w.run.made k.kind (k.commits ++ commit_of o ∷ []) (others s k.open_)
+        → S.stands new.store w (k.commits ++ commit_of o ∷ []) []
         → Fits S.stands new w (committed o.session (commit_of o) k) }
 {}
 
@@ -214,10 +217,11 @@ pub fn an_end_leaves_the_others<S: Store>()
 /// Where the changes of another session are put on the database, they stand for the same.
 pub fn a_beginning_changes_no_rows<S: Store>()
     ensures begins { (w : World) (k : Kept) (old new : Parts S) (s : ℕ) (auto : Bool) (start : CommitNo) → IsHere old s → is_open_at old.holding s ≡ false
-        → IsBegun old.holding new.holding s auto start → Rests old w k → new.seated ≡ old.seated → new.commits ≡ old.commits → Rests new w (opened s auto k) }
+        → IsBegun old.holding new.holding s auto start → Rests old w k → start.0 ≡ length k.commits → new.seated ≡ old.seated → new.commits ≡ old.commits → new.spans ≡ old.spans
+        → Rests new w (opened s auto k) }
     ensures changes { (w : World) (k : Kept) (old new : Parts S) (s : ℕ) (auto : Bool) (start : CommitNo) → IsHere old s → is_open_at old.holding s ≡ false
-        → IsBegun old.holding new.holding s auto start → Holds old.holding k → (b : ℕ) → IsSession b → changes_of new b ≡ changes_of old b }
-    ensures seated { (w : World) (k : Kept) (old new : Parts S) → Rests old w k → new.holding ≡ old.holding → new.commits ≡ old.commits → IsSession new.seated.0
+        → IsBegun old.holding new.holding s auto start → Holds old.holding k → start.0 ≡ length k.commits → (b : ℕ) → IsSession b → changes_of new b ≡ changes_of old b }
+    ensures seated { (w : World) (k : Kept) (old new : Parts S) → Rests old w k → new.holding ≡ old.holding → new.commits ≡ old.commits → new.spans ≡ old.spans → IsSession new.seated.0
         → S.stands new.store w k.commits (changes_of old new.seated.0) → Fits S.stands new w k }
 {}
 

@@ -7,7 +7,7 @@ pub returns-clause-own : goal.returns-clause-own
 returns-clause-own g c = λ w m old entry here rests. its_own w m old entry here rests
 
 pub returns-clause-seen : goal.returns-clause-seen
-returns-clause-seen g c = λ w m old entry here rests. its_sight w m old entry here rests
+returns-clause-seen g c = λ w m old entry read here rests is_read. its_sight w m old entry here rests read is_read
 
 pub returns-clause-refused : goal.returns-clause-refused
-returns-clause-refused g c = λ w m old new r old_told told old_made made entry why here rests e h. data_by_refusal w m old entry here rests (λ a. Moves g.S.Store.stands w m a new r old_told told old_made made) (Some why) e h
+returns-clause-refused g c = λ w m old new r old_told told old_made made entry why read here rests is_read e h. data_by_refusal w m old entry here rests read is_read (λ a. Moves g.S.Store.stands w m a new r old_told told old_made made) (Some why) e h

@@ -13,4 +13,4 @@ pub returns-clause-deadlock : goal.returns-clause-deadlock
 returns-clause-deadlock g c = λ w m old new r old_told told made entry set back rests ways named are first l. deadlocked g.S.Store.stands w m new r old_told told entry old.holding rests.holds named ways set are made back first l
 
 pub returns-clause-waits : goal.returns-clause-waits
-returns-clause-waits g c = λ w m old new r old_told told made entry set here rests ways named are some first up seated commits at final ended is. waits_by g.S.Store.stands w m old new r old_told told made entry set here rests ways named are some first up seated commits at final ended is
+returns-clause-waits g c = λ w m old new r old_told told made entry set here rests ways named are some first up seated commits spans at final ended is. waits_by g.S.Store.stands w m old new r old_told told made entry set here rests ways named are some first up seated commits spans at final ended is

@@ -4,7 +4,7 @@ use Rattle.hs_controls.proofs.Waiting.{fits_answered}
 use Rattle.hs_controls.proofs.laws.a_waiter_that_is_answered_waits_for_nobody.Goals as goal
 
 pub returns-clause-answered : goal.returns-clause-answered
-returns-clause-answered g c = λ w side old new s here rests i seated commits at. fits_answered g.S.Store.stands w (kept_of side) old new seated commits rests at s here i
+returns-clause-answered g c = λ w side old new s here rests i seated commits spans at. fits_answered g.S.Store.stands w (kept_of side) old new seated commits spans rests at s here i
 
 pub returns-clause-first : goal.returns-clause-first
 returns-clause-first g c = λ w side new s final fits. fits

@@ -8,7 +8,7 @@ pub returns-clause-starts : goal.returns-clause-starts
 returns-clause-starts g c = λ w m entry modes asks. start_refused w m entry modes asks
 
 pub returns-clause-data : goal.returns-clause-data
-returns-clause-data g c = λ w m old entry why here rests asks e. data_refused w m old entry here rests why asks e
+returns-clause-data g c = λ w m old entry why read here rests is_read asks e. data_refused w m old entry here rests read is_read why asks e
 
 pub returns-clause-definition : goal.returns-clause-definition
-returns-clause-definition g c = λ w m old entry why here rests asks e. definition_refused w m old entry here rests why asks e
+returns-clause-definition g c = λ w m old entry why read here rests is_read asks e. definition_refused w m old entry here rests read is_read why asks e
