@@ -80,8 +80,8 @@ module _ {S : Type 0} (At : S → World → List Commit → List Change → Type
 
 -- it is answered after it waited
 pub waits_answered : {S : Type 0} (At : S → World → List Commit → List Change → Type 0) (old new : Parts S) (w : World) (is_first final : Bool) (s : ℕ) (side : Side) → IsNumber (length side.settings) s → is_first ≡ false → final ≡ true → Fits At old w (kept_of side)
-    → IsAnswered old.holding new.holding s → new.seated ≡ old.seated → new.commits ≡ old.commits → At new.store w side.history.commits (changes_of old old.seated.0) → Fits At new w (kept_of (answered_by is_first final s side))
-waits_answered At old new w is_first final s side number first is fits i seated commits at =
+    → IsAnswered old.holding new.holding s → new.seated ≡ old.seated → new.commits ≡ old.commits → new.spans ≡ old.spans → At new.store w side.history.commits (changes_of old old.seated.0) → Fits At new w (kept_of (answered_by is_first final s side))
+waits_answered At old new w is_first final s side number first is fits i seated commits spans at =
     subst (λ (b : Bool). Fits At new w (kept_of (answered_by b final s side))) (sym first)
     (subst (λ (b : Bool). Fits At new w (kept_of (answered_by false b s side))) (sym is)
-    (fits_answered At w (kept_of side) old new seated commits fits.rests at s (here_of old w (kept_of side) s fits.rests number) i))
+    (fits_answered At w (kept_of side) old new seated commits spans fits.rests at s (here_of old w (kept_of side) s fits.rests number) i))

@@ -17,7 +17,7 @@ use Rattle.hs_controls.specs.Controls.{IsSet, control_told}
 
 module _ {S : Type 0} (At : S → World → List Commit → List Change → Type 0) (w : World) (commits : List Commit) (control : Control) (s : ℕ) (before : Parts S) (begun : Holding) (mid new : Parts S) (r : Attempted) (told told' : List Said) (i : IsControlled control begun mid.holding s)
     (own : mid.seated.0 ≡ s → At new.store w commits (take (length (changes_of mid s)) (changes_of before before.seated.0))) (other : (mid.seated.0 == s) ≡ false → At new.store w commits (changes_of before before.seated.0))
-    (holding : new.holding ≡ mid.holding) (seated : new.seated ≡ before.seated) (count : new.commits ≡ before.commits) (same : before.seated ≡ mid.seated) (final : r.is_final ≡ true) (ended : r.has_ended ≡ false)
+    (holding : new.holding ≡ mid.holding) (seated : new.seated ≡ before.seated) (count : new.commits ≡ before.commits) (spans : new.spans ≡ before.spans) (same : before.seated ≡ mid.seated) (final : r.is_final ≡ true) (ended : r.has_ended ≡ false)
     (reply : ControlReply) (reply_is : reply ≡ (controlled control (seat_of begun s).session).0) (telling : (cs : List Change) → At new.store w commits cs → told' ≡ control_told w told reply control) where
   told_is : told' ≡ control_told w told reply control
   told_is = by (mid.seated.0 == s) refl
@@ -36,6 +36,7 @@ module _ {S : Type 0} (At : S → World → List Commit → List Change → Type
     };
     seated = seated;
     commits_same = count;
+    spans = spans;
     final_is = final;
     ended_is = ended;
     told_is = told_is ∙ ap (λ (x : ControlReply). control_told w told x control) reply_is;

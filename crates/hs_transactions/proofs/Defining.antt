@@ -1,11 +1,10 @@
 -- What a definition finds.
-use Rattle.std.proofs.Common.{◌≡◌, ℕ, ◌+◌, ◌<◌, ◌^◌, Bool, true, false, List, [], ◌∷◌, length, sym, ap, ◌∙◌, subst, arith, codes}
+use Rattle.std.proofs.Common.{◌++◌, ◌≡◌, ℕ, ◌+◌, ◌<◌, ◌^◌, Bool, true, false, List, [], ◌∷◌, sym, ap, ◌∙◌, subst, arith, codes}
 use Rattle.std.specs.Prelude.{Some, Ok}
-use Rattle.hs_turns.specs.Database.{has_room}
+use Rattle.hs_turns.specs.Database.{Database, has_room}
 use Rattle.hs_turns.specs.Definitions.{control_after}
-use Rattle.hs_claims.specs.declared.model.ControlKind.TheVariants.{Locks}
-use Rattle.hs_turns.specs.Events.{definition_commit, fresh}
-use Rattle.hs_turns.specs.Histories.{Commit, Open, others, own}
+use Rattle.hs_turns.specs.Events.{definition_commit}
+use Rattle.hs_turns.specs.Histories.{Commit, others}
 use Rattle.hs_holding.specs.declared.holding.Holding.{Holding}
 use Rattle.hs_holding.specs.Held.{seat_of}
 use Rattle.hs_lines.specs.declared.words.Words.{Words as Said}
@@ -13,7 +12,8 @@ use Rattle.hs_plan.specs.declared.change.Change.{Change}
 use Rattle.hs_plan.specs.declared.change.Change.TheVariants as change
 use Rattle.hs_plan.specs.declared.definition.Definition.{Definition}
 use Rattle.hs_seams.specs.declared.attempted.Attempted.{Attempted}
-use Rattle.hs_seams.specs.Stores.{Commits, IsReady, present, seen}
+use Rattle.hs_seams.specs.Stores.{Commits, IsWorld, present, seen}
+use Rattle.hs_snapshots.specs.Stores.{IsReadyToDefine}
 use Rattle.hs_seams.specs.World.{World}
 use Rattle.hs_sides.specs.Sides.{side_of}
 use Rattle.hs_turns.specs.Attempts.{data_event, defined}
@@ -26,9 +26,11 @@ use Rattle.hs_moves.specs.Answers.{ok_told, refusal_told}
 use Rattle.hs_moves.specs.Moves.{Moves}
 use Rattle.hs_moves.specs.Parts.{Parts}
 use Rattle.hs_moves.proofs.Defining.{define_done, define_full}
-use Rattle.hs_moves.proofs.Worlds.{number_fits, own_valid, present_valid}
-use Rattle.hs_controls.specs.Sights.{IsQuiet, behind_own}
-use Rattle.hs_controls.proofs.Seeing.{its_own}
+use Rattle.hs_moves.proofs.Worlds.{model_is, number_fits, own_valid, present_valid}
+use Rattle.hs_turns.proofs.Sound.{now_more}
+use Rattle.hs_turns.specs.Laws.{IsHistory}
+use Rattle.hs_controls.specs.Sights.{IsQuiet, IsRead, behind_own}
+use Rattle.hs_controls.proofs.Seeing.{its_sight}
 use Rattle.hs_controls.proofs.Waiting.{fits_defined, quiet_none}
 use Rattle.hs_transactions.specs.Standing.{IsAt}
 use Rattle.hs_transactions.proofs.Sanity.{sane_own}
@@ -39,13 +41,11 @@ module _ {S : Type 0} (At : S → World → List Commit → List Change → Type
   k = kept_of (side_of m)
 
   -- the database is valid with the changes of the seated session
-  pub seated_valid : (entry : Entry) → IsHere t entry.session → t.seated.0 ≡ entry.session → w.run.dialect.is_valid (seen w m.history.commits (changes_of t t.seated.0)) ≡ true
-  seated_valid entry here seated =
-      subst (λ (cs : List Change). w.run.dialect.is_valid (seen w m.history.commits cs) ≡ true) (sym (ap (changes_of t) seated ∙ (its_own w m t entry here at.stands.fits.rests).changes))
-      (own_valid w at.stands.world m.history at.stands.sane.history at.stands.fits.rests.holds.kind (data_event w.run.dialect w.run.opening w.run.made m entry false))
-
-  pub seated_ready : (entry : Entry) → IsHere t entry.session → t.seated.0 ≡ entry.session → IsReady (At t.store)
-  seated_ready entry here seated = (w, m.history.commits, changes_of t t.seated.0, (at.stands.fits.store, seated_valid entry here seated))
+  pub seated_valid : (entry : Entry) → IsHere t entry.session → t.seated.0 ≡ entry.session → (read : List Commit) → IsRead w m entry read → w.run.dialect.is_valid (seen w read (changes_of t t.seated.0)) ≡ true
+  seated_valid entry here seated read is_read =
+      subst (λ (db : Database). w.run.dialect.is_valid db ≡ true)
+      (its_sight w m t entry here at.stands.fits.rests read is_read ∙ ap (λ (s : ℕ). seen w read (changes_of t s)) (sym seated))
+      (own_valid w at.stands.world m.history at.stands.sane.history (data_event w.run.dialect w.run.opening w.run.made m entry false))
 
   -- ---- where no transaction is open
 
@@ -61,26 +61,14 @@ module _ {S : Type 0} (At : S → World → List Commit → List Change → Type
     pub quiet_valid : w.run.dialect.is_valid (present w m.history.commits) ≡ true
     quiet_valid = present_valid w at.stands.world m.history at.stands.sane.history
 
-    -- for its own session
-    pub quiet_ready : IsReady (At t.store)
-    quiet_ready = (w, m.history.commits, changes_of t t.seated.0, (at.stands.fits.store, valid))
-      where
-        entry : Entry
-        entry = record { number = 0; session = t.seated.0; text = [] }
+    pub quiet_ready : IsReadyToDefine (At t.store)
+    quiet_ready = (w, m.history.commits, (quiet_store, quiet_valid))
 
-        at_seat : (own t.seated.0 (fresh m.history.kind (data_event w.run.dialect w.run.opening w.run.made m entry false) (length m.history.commits)) m.history.open_).trace.changes ≡ []
-        at_seat = ap (λ (os : List Open). (own t.seated.0 (fresh m.history.kind (data_event w.run.dialect w.run.opening w.run.made m entry false) (length m.history.commits)) os).trace.changes) (quiet_none t.holding k at.stands.fits.rests.holds quiet)
-
-        valid : w.run.dialect.is_valid (seen w m.history.commits (changes_of t t.seated.0)) ≡ true
-        valid = subst (λ (cs : List Change). w.run.dialect.is_valid (seen w m.history.commits cs) ≡ true) (at_seat ∙ sym seat_quiet)
-            (own_valid w at.stands.world m.history at.stands.sane.history at.stands.fits.rests.holds.kind (data_event w.run.dialect w.run.opening w.run.made m entry false))
-
-  -- ---- what is defined
-
-  module _ (entry : Entry) (definition : Definition) (asks : w.run.dialect.request entry.text ≡ request.OfDefinition) (found : w.run.dialect.definition (present w m.history.commits) entry.text ≡ Ok definition) where
-    -- it keeps the model
-    pub stays_locks : control_after definition m.history.kind ≡ Locks
-    stays_locks = ap (control_after definition) at.stands.fits.rests.holds.kind ∙ at.stands.world.keeps (present w m.history.commits) entry.text definition asks found
+-- the model of transactions behind a definition
+pub model_behind : (w : World) (m : Machine) → IsWorld w → IsHistory w.run.dialect w.run.opening m.history → (session : ℕ) (definition : Definition) → (present w (m.history.commits ++ definition_commit session definition ∷ [])).control ≡ control_after definition m.history.kind
+model_behind w m world history session definition =
+    ap (λ (db : Database). db.control) (now_more w.run.opening m.history.commits (definition_commit session definition))
+    ∙ ap (control_after definition) (sym (model_is w world m.history history))
 
 -- its commit has a number
 pub defined_number : {S : Type 0} (At : S → World → List Commit → List Change → Type 0) (t : Parts S) (w : World) (m : Machine) (at : IsAt At t w m) (definition : Definition) → has_room (present w m.history.commits) (change.Define definition ∷ []) ≡ true → t.commits + 1 < 2 ^ 64
@@ -100,20 +88,20 @@ module _ {S : Type 0} (At : S → World → List Commit → List Change → Type
   same_changes : [] ≡ changes_of new new.seated.0
   same_changes = sym (ap (λ x. changes_of new x.0) seated ∙ ap (λ (h : Holding). (seat_of h old.seated.0).session.changes) holding ∙ seat_quiet At old w m at quiet)
 
-  pub defined_full : is_made ≡ false → new.commits ≡ old.commits → told' ≡ refusal_told told (codes "log full") → Defined made'
-  defined_full isnt commits is =
+  pub defined_full : is_made ≡ false → new.commits ≡ old.commits → new.spans ≡ old.spans → told' ≡ refusal_told told (codes "log full") → Defined made'
+  defined_full isnt commits spans is =
       let kept = store.kept isnt in
       subst Defined (sym kept.1) (define_full At w m new r told told' entry definition found made room (sym store.room ∙ isnt) (record {
         store = subst (λ (cs : List Change). At new.store w m.history.commits cs) same_changes kept.0;
-        rests = rests_same old new w (kept_of (side_of m)) holding seated commits at.stands.fits.rests;
+        rests = rests_same old new w (kept_of (side_of m)) holding seated commits spans at.stands.fits.rests;
       }) final ended is)
 
-  pub defined_done : is_made ≡ true → new.commits ≡ old.commits + 1 → told' ≡ ok_told told (Some (record { 0 = new.commits })) → Defined made'
-  defined_done is_done commits is =
+  pub defined_done : is_made ≡ true → new.commits ≡ old.commits + 1 → new.spans.kind ≡ control_after definition m.history.kind → new.spans.made ≡ old.spans.made → new.spans.count ≡ old.spans.count + 1 → new.spans.first ≡ new.spans.count → new.spans.claims ≡ [] → told' ≡ ok_told told (Some (record { 0 = new.commits })) → Defined made'
+  defined_done is_done commits kind same one_more first claims is =
       let done = store.done is_done in
       let before = at.stands.fits.rests.count in
       define_done At w m new r told told' entry definition found new.commits made made' (quiet_none old.holding (kept_of (side_of m)) at.stands.fits.rests.holds quiet) room (sym store.room ∙ is_done)
-      (fits_defined At w (kept_of (side_of m)) old new entry.session definition at.stands.fits.rests quiet holding seated commits (stays_locks At old w m at entry definition asks found) done.0)
+      (fits_defined At w (kept_of (side_of m)) old new entry.session definition at.stands.fits.rests quiet holding seated commits kind same one_more first claims done.0)
       (omega (arith, commits, before)) done.1 final ended is
 
 -- ---- behind the end of a session's own transaction

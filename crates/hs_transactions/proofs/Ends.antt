@@ -4,6 +4,7 @@ use Rattle.std.specs.Prelude.{None, Some, is_some, if◌then◌else◌}
 use Rattle.std.proofs.lemmas.Bool.{and_parts}
 use Rattle.hs_ast.specs.declared.session.Modes.{Modes as NewModes}
 use Rattle.hs_base.specs.declared.numbers.CommitNo.{CommitNo}
+use Rattle.hs_claims.specs.declared.model.ControlKind.{ControlKind}
 use Rattle.hs_claims.specs.Held.{held_by}
 use Rattle.hs_claims.specs.Session.{IsSession}
 use Rattle.hs_turns.specs.Histories.{Commit, Open, commit_of}
@@ -33,7 +34,8 @@ use Rattle.hs_tied.proofs.Changed.{IsChanged}
 use Rattle.hs_moves.specs.Answers.{ok_told, refusal_told}
 use Rattle.hs_moves.specs.Fits.{Fits, IsHere, Rests, changes_of, kept_of}
 use Rattle.hs_moves.specs.Moves.{Moves}
-use Rattle.hs_moves.specs.Parts.{Parts}
+use Rattle.hs_moves.specs.Parts.{Parts, Spans}
+use Rattle.hs_moves.specs.Spanned.{IsSpanned}
 use Rattle.hs_moves.specs.Refused.{IsRefused}
 use Rattle.hs_moves.proofs.Ended.{commit_full, commit_left, commit_made, commit_many}
 use Rattle.hs_moves.proofs.Refusals.{refused_auto, refused_none, refused_open}
@@ -53,7 +55,7 @@ module _ {S : Type 0} (At : S → World → List Commit → List Change → Type
   Committed = Moves At w m (attempt_commit w.run.dialect w.run.opening w.run.made (open_of m s) s m) new r told told' made made'
 
   pub found_on_store : Fits At old w k → old.seated.0 ≡ s → IsOnStore At old w k o s
-  found_on_store fits seated = record { fits = fits; seated = seated; session = f.session; changes = f.its.changes }
+  found_on_store fits seated = record { fits = fits; seated = seated; session = f.session; changes = f.its.changes; claims = f.claims }
 
   pub commit_unchanged : (mid : Parts S) → Settles At w k o mid Empty k made' made → Fits At new w (left s k) → r.is_final ≡ true → r.has_ended ≡ true → told' ≡ ok_told told None → Committed
   commit_unchanged mid x fits final ended is = commit_left At w m new r told told' s o f.found made made' x.ending fits x.texts final ended is
@@ -87,18 +89,18 @@ module _ {S : Type 0} (At : S → World → List Commit → List Change → Type
 
   -- whether its transaction ends with it
   abbrev single : Bool
-  single = is_open_at old.holding entry.session && (own_in (seat_of old.holding entry.session)).auto
+  single = is_open_at old.holding entry.session && (own_in old.spans.kind (seat_of old.holding entry.session)).auto
 
-  auto_is : (o : Open) → IsFound old.holding was entry.session o → (own_in (seat_of old.holding entry.session)).auto ≡ o.auto
-  auto_is o f = ap (λ (x : Own). x.auto) f.its.own
+  auto_is : (o : Open) → IsFound old.holding was entry.session o → (own_in old.spans.kind (seat_of old.holding entry.session)).auto ≡ o.auto
+  auto_is o f = ap (λ (x : ControlKind). (own_in x (seat_of old.holding entry.session)).auto) fits.rests.spanned.kind_is ∙ ap (λ (x : Own). x.auto) f.its.own
 
   pub refuse_ends : single ≡ true → r.has_ended ≡ true → Fits At new w (left entry.session was) → Refused
   refuse_ends one_is ended fits' =
-      let parts = and_parts (is_open_at old.holding entry.session) (own_in (seat_of old.holding entry.session)).auto one_is in
+      let parts = and_parts (is_open_at old.holding entry.session) (own_in old.spans.kind (seat_of old.holding entry.session)).auto one_is in
       let one = found_open old.holding was fits.rests.holds entry.session here.session parts.0 in
       refused_auto At w m new r told told' entry why is_refused final is one.0 one.1.found (sym (auto_is one.0 one.1) ∙ parts.1) ended fits'
 
-  stays_by : (t : Bool) → is_open_at old.holding entry.session ≡ t → (t && (own_in (seat_of old.holding entry.session)).auto) ≡ false → r.has_ended ≡ false → Fits At new w was → Refused
+  stays_by : (t : Bool) → is_open_at old.holding entry.session ≡ t → (t && (own_in old.spans.kind (seat_of old.holding entry.session)).auto) ≡ false → r.has_ended ≡ false → Fits At new w was → Refused
   stays_by false shut isnt ended fits' = refused_none At w m new r told told' entry why is_refused final is (found_shut old.holding was fits.rests.holds entry.session here.session shut) ended fits'
   stays_by true opens isnt ended fits' =
       let one = found_open old.holding was fits.rests.holds entry.session here.session opens in
@@ -116,7 +118,7 @@ named_changes modes s shut =
     ap (λ (b : Bool). (let x : ControlReply × Session = if b then (reply.OpenTransaction, s) else (reply.Ok, changed) in x).1.changes) shut
 
 module _ {S : Type 0} (At : S → World → List Commit → List Change → Type 0) (old mid new : Parts S) (w : World) (m : Machine) (modes : NewModes) (s : ℕ) (here : IsHere old s) (shut : is_open_at old.holding s ≡ false) (fits : Fits At old w (kept_of (side_of m)))
-    (i : IsControlled (control.Transaction modes) old.holding mid.holding s) (store : mid.store ≡ old.store) (seated : mid.seated ≡ old.seated) (commits : mid.commits ≡ old.commits) where
+    (i : IsControlled (control.Transaction modes) old.holding mid.holding s) (store : mid.store ≡ old.store) (seated : mid.seated ≡ old.seated) (commits : mid.commits ≡ old.commits) (spans : mid.spans ≡ old.spans) where
   abbrev before : Kept
   before = kept_of (side_of m)
 
@@ -132,6 +134,7 @@ module _ {S : Type 0} (At : S → World → List Commit → List Change → Type
     seat = subst (λ x. IsSession x.0) (sym seated) fits.rests.seat;
     count = commits ∙ fits.rests.count;
     few = fits.rests.few;
+    spanned = subst (λ (x : Spans). IsSpanned x w.run.made m.history.kind m.history.commits m.history.open_) (sym spans) fits.rests.spanned;
   }
 
   mid_changes : (b : ℕ) → IsSession b → changes_of mid b ≡ changes_of old b

@@ -1,5 +1,8 @@
 pub mod Opens
 pub mod Seats
+pub mod Placing
+pub mod Lending
+pub mod Conflicting
 pub mod Settlement
 pub mod Judging
 pub mod Sanity

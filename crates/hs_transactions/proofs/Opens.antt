@@ -6,7 +6,9 @@ use Rattle.hs_turns.specs.Each.{Each}
 use Rattle.hs_turns.specs.Histories.{Open, others, own, put_open}
 use Rattle.hs_holding.specs.declared.holding.Holding.{Holding}
 use Rattle.hs_holding.specs.Held.{is_open_at, seat_of}
-use Rattle.hs_tied.specs.Holds.{Holds, IsKept, IsOwn}
+use Rattle.hs_holding.specs.Seats.{start_in}
+use Rattle.hs_claims.specs.Held.{held_by}
+use Rattle.hs_tied.specs.Holds.{AreClaims, Holds, IsKept, IsOwn}
 use Rattle.hs_tied.specs.Kept.{Kept, fresh_for, own_for}
 use Rattle.hs_tied.proofs.Lists.{found_each}
 use Rattle.hs_turns.proofs.Opened.{found_is}
@@ -14,7 +16,9 @@ use Rattle.hs_turns.proofs.Opened.{found_is}
 pub record IsFound (h : Holding) (k : Kept) (s : ℕ) (o : Open) : Type 0 where
   pub found : find (λ x. x.session == s) k.open_ ≡ Some o
   pub session : o.session ≡ s
-  pub its : IsOwn (seat_of h s) o
+  pub its : IsOwn k.kind (seat_of h s) o
+  pub start : start_in (seat_of h s) ≡ Some (record { 0 = o.start })
+  pub claims : AreClaims k.kind o (held_by h.claims s)
 
 some_by : (r : Option Open) → is_some r ≡ true → (o : Open) × (r ≡ Some o)
 some_by (Some o) e = (o, refl)
@@ -27,8 +31,14 @@ none_by (Some o) e = absurd cc
 module _ (h : Holding) (k : Kept) (holds : Holds h k) (s : ℕ) (at : IsSession s) where
   pub found_one : (o : Open) → find (λ x. x.session == s) k.open_ ≡ Some o → IsFound h k s o
   found_one o e =
-      let it = found_each (IsKept h (length k.settings)) s o k.open_ e holds.open_ in
-      record { found = e; session = it.1; its = subst (λ (x : ℕ). IsOwn (seat_of h x) o) it.1 it.0.own }
+      let it = found_each (IsKept k.kind h (length k.settings)) s o k.open_ e holds.open_ in
+      record {
+        found = e;
+        session = it.1;
+        its = subst (λ (x : ℕ). IsOwn k.kind (seat_of h x) o) it.1 it.0.own;
+        start = subst (λ (x : ℕ). start_in (seat_of h x) ≡ Some (record { 0 = o.start })) it.1 it.0.start;
+        claims = subst (λ (x : ℕ). AreClaims k.kind o (held_by h.claims x)) it.1 it.0.claims;
+      }
 
   -- one is open
   pub found_open : is_open_at h s ≡ true → (o : Open) × IsFound h k s o

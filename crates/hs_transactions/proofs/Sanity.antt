@@ -29,6 +29,7 @@ use Rattle.hs_futures.proofs.Grows.{attempts as grows}
 use Rattle.hs_moves.specs.Fits.{kept_of}
 use Rattle.hs_moves.specs.Parts.{Parts}
 use Rattle.hs_moves.proofs.Behind.{sane_behind, ways_behind}
+use Rattle.hs_moves.proofs.Spanned.{spanned_defined}
 use Rattle.hs_controls.specs.Sights.{behind_own}
 use Rattle.hs_controls.proofs.Admitting.{new_ways}
 use Rattle.hs_controls.proofs.Sides.{behind_for, behind_ways, closed_for, closed_ways}
@@ -101,7 +102,6 @@ empty_seat h none b = ap (λ (xs : List Seat). slice_index_or xs (b - 1) nobody_
 
 begun_holds : (w : World) (h : Holding) → IsWorld w → h.seats.items ≡ [] → ((s : ℕ) → held_by h.claims s ≡ []) → ((a b : ℕ) → graph h a b ≡ false) → Holds h (kept_of (begun_side w))
 begun_holds w h world seats claims waits = record {
-  kind = world.locks;
   len = ap length seats;
   most = omega arith;
   settings = λ b n. absurd (omega (arith, n.0, n.1));
@@ -116,8 +116,8 @@ begun_holds w h world seats claims waits = record {
 }
 
 pub begun_stands : {S : Type 0} (At : S → World → List Commit → List Change → Type 0) (t : Parts S) (w : World) → IsWorld w → t.holding.seats.items ≡ [] → ((s : ℕ) → held_by t.holding.claims s ≡ []) → ((a b : ℕ) → graph t.holding a b ≡ false)
-    → t.seated.0 ≡ 1 → t.commits ≡ w.run.made → w.run.made ≤ w.run.opening.count → At t.store w [] [] → Stands At t w (begun_side w)
-begun_stands At t w world seats claims waits seated commits few at = record {
+    → t.seated.0 ≡ 1 → t.commits ≡ w.run.made → t.spans.kind ≡ w.run.opening.control → t.spans.made ≡ w.run.made → t.spans.count ≡ 0 → t.spans.first ≡ 0 → t.spans.claims ≡ [] → w.run.made ≤ w.run.opening.count → At t.store w [] [] → Stands At t w (begun_side w)
+begun_stands At t w world seats claims waits seated commits kind made count first none few at = record {
   world = world;
   fits = record {
     store = subst (λ (cs : List Change). At t.store w [] cs) (sym (ap (λ (x : Seat). x.session.changes) (empty_seat t.holding seats t.seated.0))) at;
@@ -126,6 +126,7 @@ begun_stands At t w world seats claims waits seated commits few at = record {
       seat = (omega (arith, seated), omega (arith, seated));
       count = omega (arith, commits);
       few = omega (arith, few);
+      spanned = spanned_defined t.spans w.run.made w.run.opening.control [] [] refl kind made count first none;
     };
   };
   sane = begun_sane w;

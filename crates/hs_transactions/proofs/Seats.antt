@@ -12,7 +12,8 @@ use Rattle.hs_seams.specs.World.{World}
 use Rattle.hs_tied.specs.Holds.{Holds}
 use Rattle.hs_tied.specs.Kept.{Kept, opened}
 use Rattle.hs_moves.specs.Fits.{Fits, IsHere, Rests, changes_of}
-use Rattle.hs_moves.specs.Parts.{Parts}
+use Rattle.hs_moves.specs.Parts.{Parts, Spans}
+use Rattle.hs_moves.specs.Spanned.{IsSpanned}
 
 -- one seat is set
 pub here_set : {S : Type 0} (old new : Parts S) (s : ℕ) (seat : Seat) → new.holding.seats.items ≡ slice_set old.holding.seats.items (s - 1) seat → IsHere old s → IsHere new s
@@ -25,13 +26,18 @@ here_set old new s seat is here = record {
 pub here_same : {S : Type 0} (old new : Parts S) (s : ℕ) → new.holding ≡ old.holding → IsHere old s → IsHere new s
 here_same old new s is here = record { seat = subst (λ (h : Holding). IsSeat h s) (sym is) here.seat; session = here.session }
 
-pub rests_same : {S : Type 0} (old new : Parts S) (w : World) (k : Kept) → new.holding ≡ old.holding → new.seated ≡ old.seated → new.commits ≡ old.commits → Rests old w k → Rests new w k
-rests_same old new w k holding seated commits rests = record {
+pub rests_same : {S : Type 0} (old new : Parts S) (w : World) (k : Kept) → new.holding ≡ old.holding → new.seated ≡ old.seated → new.commits ≡ old.commits → new.spans ≡ old.spans → Rests old w k → Rests new w k
+rests_same old new w k holding seated commits spans rests = record {
   holds = subst (λ (h : Holding). Holds h k) (sym holding) rests.holds;
   seat = subst (λ x. IsSession x.0) (sym seated) rests.seat;
   count = commits ∙ rests.count;
   few = rests.few;
+  spanned = subst (λ (x : Spans). IsSpanned x w.run.made k.kind k.commits k.open_) (sym spans) rests.spanned;
 }
+
+-- the snapshots are those that there were
+pub live_same : (s : Spans) (live : List ℕ) → live ≡ s.live → (let x : Spans = record s { live = live } in x) ≡ s
+live_same s live is = ap (λ (l : List ℕ). let x : Spans = record s { live = l } in x) is
 
 -- a session with a number
 pub here_of : {S : Type 0} (t : Parts S) (w : World) (k : Kept) (s : ℕ) → Rests t w k → IsNumber (length k.settings) s → IsHere t s

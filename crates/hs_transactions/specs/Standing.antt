@@ -1,5 +1,5 @@
 -- What an engine stands for.
-use Rattle.std.specs.Prelude.{◌≡◌, ℕ, true, List, [], length}
+use Rattle.std.specs.Prelude.{◌≡◌, ℕ, Bool, true, Option, List, [], length}
 use Rattle.hs_turns.specs.Events.{begun}
 use Rattle.hs_turns.specs.Histories.{Commit}
 use Rattle.hs_plan.specs.declared.change.Change.{Change}
@@ -13,6 +13,13 @@ use Rattle.hs_turns.proofs.Opened.{has}
 use Rattle.hs_tied.specs.Waiting.{Ways}
 use Rattle.hs_moves.specs.Fits.{Fits, kept_of}
 use Rattle.hs_moves.specs.Parts.{Parts}
+use Rattle.hs_moves.specs.Spanned.{read_by}
+use Rattle.hs_snapshots.specs.Places.{commits_at}
+use Rattle.hs_tied.specs.Kept.{Kept, own_for}
+
+-- at a place statements of a session find what they read
+abbrev pub IsPlaced : Option ℕ → ℕ → Kept → Type 0
+IsPlaced place s k = (auto : Bool) → commits_at place k.commits ≡ read_by k.kind k.commits (own_for s auto k)
 
 -- events lead to the history; sessions wait for open transactions alone, and never in a circle
 pub record IsSane (w : World) (side : Side) : Type 0 where

@@ -12,7 +12,9 @@ ghost use Rattle.hs_moves.specs.Answers as spec;
 ghost use Rattle.hs_moves.specs.Fits.{Fits, IsHere, changes_of, kept_of};
 ghost use Rattle.hs_moves.specs.Moves.{Moves};
 ghost use Rattle.hs_moves.specs.Parts.{Parts};
-ghost use Rattle.hs_transactions.specs.Parts.{parts_of};
+ghost use Rattle.hs_transactions.specs.Parts.{parts_of, spans_of};
+ghost use Rattle.hs_snapshots.specs.Stores.{IsStores};
+ghost use Rattle.hs_snapshots.specs.declared.stores.Stores.{Stores as TheStores};
 
 use crate::telling::{tell_ok, tell_refusal};
 use crate::transactions::Transactions;
@@ -62,7 +64,7 @@ fn no_savepoint(alloc: Global, printed: &Chars) -> Result<Chars, NoMemory>
     Ok(why)
 }
 
-impl<S: Store> Transactions<S> {
+impl<S: Store + Drop> Transactions<S> {
     // Does a statement on settings or savepoints. SAVEPOINT begins a transaction, where none is open and autocommit is off.
     // An `Err` is want of memory.
     pub(crate) fn run_control(
@@ -72,12 +74,12 @@ impl<S: Store> Transactions<S> {
         told: &mut Vec<Words>,
     ) -> Result<Attempted, NoMemory>
         requires { IsHere (parts_of self.old) session.0 }
-        ensures { (w : World) (m : Machine) → Fits S.stands (parts_of self.old) w (kept_of (side_of m))
-            → IfOk result (λ r. Moves S.stands w m (attempt_control w.run.dialect w.run.opening w.run.made control.now session.0 m) (parts_of self.new) r told.old.items told.new.items [] []) }
+        ensures { (w : World) (m : Machine) → Fits (IsStores S.stands) (parts_of self.old) w (kept_of (side_of m))
+            → IfOk result (λ r. Moves (IsStores S.stands) w m (attempt_control w.run.dialect w.run.opening w.run.made control.now session.0 m) (parts_of self.new) r told.old.items told.new.items [] []) }
     {
         if self.begins_first(session, control) {
             self.holding
-                .begin(session, false, CommitNo(self.commits), self.alloc)?;
+                .begin(session, false, CommitNo(self.count), self.alloc)?;
             return self.set(session, control, told);
         }
         self.set(session, control, told)
@@ -105,8 +107,8 @@ impl<S: Store> Transactions<S> {
         told: &mut Vec<Words>,
     ) -> Result<Attempted, NoMemory>
         requires { IsHere (parts_of self.old) session.0 }
-        ensures { (w : World) (commits : List Commit) (before : Parts S) → S.stands self.old.store w commits (changes_of before before.seated.0) → before.seated ≡ self.old.seated → before.commits ≡ self.old.commits
-            → IfOk result (λ r. IsSet S.stands w commits control.now session.0 before self.old.holding (parts_of self.new) r told.old.items told.new.items) }
+        ensures { (w : World) (commits : List Commit) (before : Parts (TheStores S)) → IsStores S.stands self.old.stores w commits (changes_of before before.seated.0) → before.seated ≡ self.old.seated → before.commits ≡ self.old.commits → before.spans ≡ spans_of self.old
+            → IfOk result (λ r. IsSet (IsStores S.stands) w commits control.now session.0 before self.old.holding (parts_of self.new) r told.old.items told.new.items) }
     {
         let reply = self.holding.control(session, control, self.alloc)?;
         self.take_back(session)?;
@@ -120,17 +122,19 @@ impl<S: Store> Transactions<S> {
     // Takes back what is on the database beyond the changes of a session, where that is seated. An `Err` is want of memory.
     fn take_back(&mut self, session: SessionNo) -> Result<(), NoMemory>
         requires { IsHere (parts_of self.old) session.0 }
-        ensures own { (w : World) (commits : List Commit) (seated : List Change) → S.stands self.old.store w commits seated → self.old.seated.0 ≡ session.0 → OnOk result (S.stands self.new.store w commits (take (length (changes_of (parts_of self.old) session.0)) seated)) }
-        ensures other { (w : World) (commits : List Commit) (seated : List Change) → S.stands self.old.store w commits seated → (self.old.seated.0 == session.0) ≡ false → OnOk result (S.stands self.new.store w commits seated) }
+        ensures own { (w : World) (commits : List Commit) (seated : List Change) → IsStores S.stands self.old.stores w commits seated → self.old.seated.0 ≡ session.0 → OnOk result (IsStores S.stands self.new.stores w commits (take (length (changes_of (parts_of self.old) session.0)) seated)) }
+        ensures other { (w : World) (commits : List Commit) (seated : List Change) → IsStores S.stands self.old.stores w commits seated → (self.old.seated.0 == session.0) ≡ false → OnOk result (IsStores S.stands self.new.stores w commits seated) }
         ensures holding { self.new.holding ≡ self.old.holding }
         ensures seated { self.new.seated ≡ self.old.seated }
         ensures commits { self.new.commits ≡ self.old.commits }
+        ensures spans { OnOk result (spans_of self.new ≡ spans_of self.old) }
     {
         if self.seated.0 != session.0 {
             return Ok(());
         }
         let len = self.holding.changes(session).len();
-        self.store.back(len)
+        self.stores.back(len)?;
+        Ok(())
     }
 
     // What it comes to. An `Err` is want of memory.
@@ -140,7 +144,7 @@ impl<S: Store> Transactions<S> {
         control: &Control,
         told: &mut Vec<Words>,
     ) -> Result<(), NoMemory>
-        ensures { (w : World) (commits : List Commit) (seated : List Change) → S.stands self.now.store w commits seated → OnOk result (told.new.items ≡ control_told w told.old.items reply control.now) }
+        ensures { (w : World) (commits : List Commit) (seated : List Change) → IsStores S.stands self.now.stores w commits seated → OnOk result (told.new.items ≡ control_told w told.old.items reply control.now) }
     {
         match reply {
             ControlReply::Ok => tell_ok(self.alloc, told, None),
@@ -151,11 +155,11 @@ impl<S: Store> Transactions<S> {
 
     // The session has no savepoint of the name. An `Err` is want of memory.
     fn tell_no_savepoint(&self, control: &Control, told: &mut Vec<Words>) -> Result<(), NoMemory>
-        ensures { (w : World) (commits : List Commit) (seated : List Change) → S.stands self.now.store w commits seated
+        ensures { (w : World) (commits : List Commit) (seated : List Change) → IsStores S.stands self.now.stores w commits seated
             → OnOk result (told.new.items ≡ spec.refusal_told told.old.items (codes "no savepoint " ++ w.run.dialect.printed_name (savepoint_of control.now))) }
     {
         let name = named(self.alloc, control)?;
-        let printed = self.store.printed_name(&name)?;
+        let printed = self.stores.printed_name(&name)?;
         let why = no_savepoint(self.alloc, &printed)?;
         tell_refusal(self.alloc, told, why.as_str())?;
         Ok(())

@@ -16,6 +16,7 @@ ghost use Rattle.hs_moves.specs.Moves.{Moves};
 ghost use Rattle.hs_moves.specs.Parts.{Parts};
 ghost use Rattle.hs_transactions.specs.Parts.{parts_of};
 ghost use Rattle.hs_transactions.specs.Standing.{IsAt};
+ghost use Rattle.hs_snapshots.specs.Stores.{IsStores};
 
 use crate::settling::Settled;
 use crate::telling::{tell_deadlock, tell_ok, tell_refusal};
@@ -29,7 +30,7 @@ use hs_plan::Definition;
 use hs_queue::Entry;
 use hs_seams::{Attempted, Store};
 
-impl<S: Store> Transactions<S> {
+impl<S: Store + Drop> Transactions<S> {
     // Attempts a definition. An `Err` is want of memory.
     pub(crate) fn run_definition(
         &mut self,
@@ -41,15 +42,15 @@ impl<S: Store> Transactions<S> {
         made: &mut Batch,
     ) -> Result<Attempted, NoMemory>
         requires here { IsHere (parts_of self.old) entry.now.session.0 }
-        requires at { (w : World) × (m : Machine) × IsAt S.stands (parts_of self.old) w m }
+        requires at { (w : World) × (m : Machine) × IsAt (IsStores S.stands) (parts_of self.old) w m }
         requires entry { IsEntry entry.now }
         requires tree { S.is_read statement.now (entry_of entry.now).text }
-        ensures { (w : World) (m : Machine) → IsAt S.stands (parts_of self.old) w m → m.names ≡ names.now → w.run.dialect.request (entry_of entry.now).text ≡ request.OfDefinition
-            → IfOk result (λ r. Moves S.stands w m (attempt_definition w.run.dialect w.run.opening w.run.made is_first (entry_of entry.now) m) (parts_of self.new) r told.old.items told.new.items made.old made.new) }
+        ensures { (w : World) (m : Machine) → IsAt (IsStores S.stands) (parts_of self.old) w m → m.names ≡ names.now → w.run.dialect.request (entry_of entry.now).text ≡ request.OfDefinition
+            → IfOk result (λ r. Moves (IsStores S.stands) w m (attempt_definition w.run.dialect w.run.opening w.run.made is_first (entry_of entry.now) m) (parts_of self.new) r told.old.items told.new.items made.old made.new) }
     {
         self.seat(entry.session)?;
-        let own = self.holding.own(entry.session);
-        match self.store.refusal(entry, statement, own.read_only)? {
+        let own = self.holding.own(entry.session, self.kind);
+        match self.stores.refusal(entry, statement, own.read_only)? {
             Some(why) => self.refuse(entry, why.as_str(), told),
             None => self.bind(is_first, entry, statement, names, told, made),
         }
@@ -66,12 +67,12 @@ impl<S: Store> Transactions<S> {
         made: &mut Batch,
     ) -> Result<Attempted, NoMemory>
         requires here { IsHere (parts_of self.old) entry.now.session.0 }
-        requires at { (w : World) × (m : Machine) × IsAt S.stands (parts_of self.old) w m }
+        requires at { (w : World) × (m : Machine) × IsAt (IsStores S.stands) (parts_of self.old) w m }
         requires seated { self.old.seated.0 ≡ entry.now.session.0 }
         requires entry { IsEntry entry.now }
         requires tree { S.is_read statement.now (entry_of entry.now).text }
-        ensures { (w : World) (m : Machine) → IsAt S.stands (parts_of self.old) w m → m.names ≡ names.now → w.run.dialect.request (entry_of entry.now).text ≡ request.OfDefinition
-            → IfOk result (λ r. Moves S.stands w m (bound_definition w.run.dialect w.run.opening w.run.made is_first (entry_of entry.now) m) (parts_of self.new) r told.old.items told.new.items made.old made.new) }
+        ensures { (w : World) (m : Machine) → IsAt (IsStores S.stands) (parts_of self.old) w m → m.names ≡ names.now → w.run.dialect.request (entry_of entry.now).text ≡ request.OfDefinition
+            → IfOk result (λ r. Moves (IsStores S.stands) w m (bound_definition w.run.dialect w.run.opening w.run.made is_first (entry_of entry.now) m) (parts_of self.new) r told.old.items told.new.items made.old made.new) }
     {
         if !is_first {
             return self.define_or_wait(entry, statement, names, told, made);
@@ -92,14 +93,15 @@ impl<S: Store> Transactions<S> {
         made: &mut Batch,
     ) -> Result<Attempted, NoMemory>
         requires here { IsHere (parts_of self.old) entry.now.session.0 }
-        requires at { (w : World) × (m : Machine) × IsAt S.stands (parts_of self.old) w m }
+        requires at { (w : World) × (m : Machine) × IsAt (IsStores S.stands) (parts_of self.old) w m }
         requires seated { self.old.seated.0 ≡ entry.now.session.0 }
         requires opened { is_open_at self.old.holding entry.now.session.0 ≡ true }
         requires entry { IsEntry entry.now }
         requires tree { S.is_read statement.now (entry_of entry.now).text }
-        ensures { (w : World) (m : Machine) → IsAt S.stands (parts_of self.old) w m → m.names ≡ names.now → w.run.dialect.request (entry_of entry.now).text ≡ request.OfDefinition
-            → IfOk result (λ r. Moves S.stands w m (bound_definition w.run.dialect w.run.opening w.run.made true (entry_of entry.now) m) (parts_of self.new) r told.old.items told.new.items made.old made.new) }
+        ensures { (w : World) (m : Machine) → IsAt (IsStores S.stands) (parts_of self.old) w m → m.names ≡ names.now → w.run.dialect.request (entry_of entry.now).text ≡ request.OfDefinition
+            → IfOk result (λ r. Moves (IsStores S.stands) w m (bound_definition w.run.dialect w.run.opening w.run.made true (entry_of entry.now) m) (parts_of self.new) r told.old.items told.new.items made.old made.new) }
     {
+        self.seat_for_commit(entry.session)?;
         match self.settle(entry.session, made)? {
             Settled::Unchanged => {
                 self.leave(entry.session)?;
@@ -144,11 +146,11 @@ impl<S: Store> Transactions<S> {
         made: &mut Batch,
     ) -> Result<Attempted, NoMemory>
         requires here { IsHere (parts_of self.old) entry.now.session.0 }
-        requires at { (w : World) × (m : Machine) × IsAt S.stands (parts_of self.old) w m }
+        requires at { (w : World) × (m : Machine) × IsAt (IsStores S.stands) (parts_of self.old) w m }
         requires entry { IsEntry entry.now }
         requires tree { S.is_read statement.now (entry_of entry.now).text }
-        ensures { (w : World) (m : Machine) → IsAt S.stands (parts_of self.old) w m → m.names ≡ names.now → w.run.dialect.request (entry_of entry.now).text ≡ request.OfDefinition
-            → IfOk result (λ r. Moves S.stands w m (defining w.run.dialect w.run.opening w.run.made m.history.open_ [] (entry_of entry.now) m) (parts_of self.new) r told.old.items told.new.items made.old made.new) }
+        ensures { (w : World) (m : Machine) → IsAt (IsStores S.stands) (parts_of self.old) w m → m.names ≡ names.now → w.run.dialect.request (entry_of entry.now).text ≡ request.OfDefinition
+            → IfOk result (λ r. Moves (IsStores S.stands) w m (defining w.run.dialect w.run.opening w.run.made m.history.open_ [] (entry_of entry.now) m) (parts_of self.new) r told.old.items told.new.items made.old made.new) }
     {
         let holders = self.holding.open_sessions();
         if holders.is_empty() {
@@ -167,8 +169,8 @@ impl<S: Store> Transactions<S> {
         told: &mut Vec<Words>,
     ) -> Result<Attempted, NoMemory>
         requires { IsHere (parts_of self.old) entry.now.session.0 }
-        ensures { (w : World) (m : Machine) → IsAt S.stands (parts_of self.old) w m → m.names ≡ names.now → ((b : ℕ) → IsSession b → has holders b ≡ is_open_at self.old.holding b) → (IsQuiet self.old.holding → ⊥)
-            → IfOk result (λ r. Moves S.stands w m (defining w.run.dialect w.run.opening w.run.made m.history.open_ [] (entry_of entry.now) m) (parts_of self.new) r told.old.items told.new.items [] []) }
+        ensures { (w : World) (m : Machine) → IsAt (IsStores S.stands) (parts_of self.old) w m → m.names ≡ names.now → ((b : ℕ) → IsSession b → has holders b ≡ is_open_at self.old.holding b) → (IsQuiet self.old.holding → ⊥)
+            → IfOk result (λ r. Moves (IsStores S.stands) w m (defining w.run.dialect w.run.opening w.run.made m.history.open_ [] (entry_of entry.now) m) (parts_of self.new) r told.old.items told.new.items [] []) }
     {
         match self.holding.leading_back(entry.session, holders) {
             Some(back) => {
@@ -198,14 +200,14 @@ impl<S: Store> Transactions<S> {
         made: &mut Batch,
     ) -> Result<Attempted, NoMemory>
         requires here { IsHere (parts_of self.old) entry.now.session.0 }
-        requires at { (w : World) × (m : Machine) × IsAt S.stands (parts_of self.old) w m }
+        requires at { (w : World) × (m : Machine) × IsAt (IsStores S.stands) (parts_of self.old) w m }
         requires quiet { IsQuiet self.old.holding }
         requires entry { IsEntry entry.now }
         requires tree { S.is_read statement.now (entry_of entry.now).text }
-        ensures { (w : World) (m : Machine) → IsAt S.stands (parts_of self.old) w m → w.run.dialect.request (entry_of entry.now).text ≡ request.OfDefinition
-            → IfOk result (λ r. Moves S.stands w m (defined w.run.dialect w.run.opening w.run.made (w.run.dialect.definition (present w m.history.commits) (entry_of entry.now).text) [] (entry_of entry.now) m) (parts_of self.new) r told.old.items told.new.items made.old made.new) }
+        ensures { (w : World) (m : Machine) → IsAt (IsStores S.stands) (parts_of self.old) w m → w.run.dialect.request (entry_of entry.now).text ≡ request.OfDefinition
+            → IfOk result (λ r. Moves (IsStores S.stands) w m (defined w.run.dialect w.run.opening w.run.made (w.run.dialect.definition (present w m.history.commits) (entry_of entry.now).text) [] (entry_of entry.now) m) (parts_of self.new) r told.old.items told.new.items made.old made.new) }
     {
-        match self.store.definition(entry, statement)? {
+        match self.stores.definition(entry, statement)? {
             Ok(definition) => self.commit_definition(entry, definition, told, made),
             Err(why) => {
                 tell_refusal(self.alloc, told, why.as_str())?;
@@ -226,19 +228,19 @@ impl<S: Store> Transactions<S> {
         made: &mut Batch,
     ) -> Result<Attempted, NoMemory>
         requires here { IsHere (parts_of self.old) entry.now.session.0 }
-        requires at { (w : World) × (m : Machine) × (IsAt S.stands (parts_of self.old) w m × (w.run.dialect.definition (present w m.history.commits) (entry_of entry.now).text ≡ Ok definition)) }
+        requires at { (w : World) × (m : Machine) × (IsAt (IsStores S.stands) (parts_of self.old) w m × (w.run.dialect.definition (present w m.history.commits) (entry_of entry.now).text ≡ Ok definition)) }
         requires quiet { IsQuiet self.old.holding }
-        ensures { (w : World) (m : Machine) → IsAt S.stands (parts_of self.old) w m → w.run.dialect.request (entry_of entry.now).text ≡ request.OfDefinition → w.run.dialect.definition (present w m.history.commits) (entry_of entry.now).text ≡ Ok definition
-            → IfOk result (λ r. Moves S.stands w m (defined w.run.dialect w.run.opening w.run.made (w.run.dialect.definition (present w m.history.commits) (entry_of entry.now).text) [] (entry_of entry.now) m) (parts_of self.new) r told.old.items told.new.items made.old made.new) }
+        ensures { (w : World) (m : Machine) → IsAt (IsStores S.stands) (parts_of self.old) w m → w.run.dialect.request (entry_of entry.now).text ≡ request.OfDefinition → w.run.dialect.definition (present w m.history.commits) (entry_of entry.now).text ≡ Ok definition
+            → IfOk result (λ r. Moves (IsStores S.stands) w m (defined w.run.dialect w.run.opening w.run.made (w.run.dialect.definition (present w m.history.commits) (entry_of entry.now).text) [] (entry_of entry.now) m) (parts_of self.new) r told.old.items told.new.items made.old made.new) }
     {
-        if !self.store.has_room(1) {
+        if !self.stores.has_room(1) {
             tell_refusal(self.alloc, told, "changes")?;
             return Ok(Attempted {
                 is_final: true,
                 has_ended: false,
             });
         }
-        if !self.store.define(entry.session, definition, made)? {
+        if !self.stores.define(entry.session, definition, made)? {
             tell_refusal(self.alloc, told, "log full")?;
             return Ok(Attempted {
                 is_final: true,
@@ -246,6 +248,9 @@ impl<S: Store> Transactions<S> {
             });
         }
         self.commits += 1;
+        self.count += 1;
+        self.kind = self.stores.control();
+        self.past.forget(self.count);
         tell_ok(self.alloc, told, Some(CommitNo(self.commits)))?;
         Ok(Attempted {
             is_final: true,

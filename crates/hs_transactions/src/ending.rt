@@ -12,6 +12,7 @@ ghost use Rattle.hs_moves.specs.Fits.{Fits, IsHere, kept_of};
 ghost use Rattle.hs_moves.specs.Moves.{Moves};
 ghost use Rattle.hs_moves.specs.Parts.{Parts};
 ghost use Rattle.hs_transactions.specs.Parts.{parts_of};
+ghost use Rattle.hs_snapshots.specs.Stores.{IsStores};
 
 use crate::settling::Settled;
 use crate::telling::{tell_ok, tell_refusal};
@@ -24,7 +25,7 @@ use hs_queue::Entry;
 use hs_seams::{Attempted, Store};
 use hs_sessions::Control;
 
-impl<S: Store> Transactions<S> {
+impl<S: Store + Drop> Transactions<S> {
     // COMMIT. An `Err` is want of memory.
     pub(crate) fn commit(
         &mut self,
@@ -33,9 +34,9 @@ impl<S: Store> Transactions<S> {
         made: &mut Batch,
     ) -> Result<Attempted, NoMemory>
         requires here { IsHere (parts_of self.old) session.0 }
-        requires fits { (w : World) × (k : Kept) × Fits S.stands (parts_of self.old) w k }
-        ensures { (w : World) (m : Machine) → Fits S.stands (parts_of self.old) w (kept_of (side_of m))
-            → IfOk result (λ r. Moves S.stands w m (attempt_commit w.run.dialect w.run.opening w.run.made (open_of m session.0) session.0 m) (parts_of self.new) r told.old.items told.new.items made.old made.new) }
+        requires fits { (w : World) × (k : Kept) × Fits (IsStores S.stands) (parts_of self.old) w k }
+        ensures { (w : World) (m : Machine) → Fits (IsStores S.stands) (parts_of self.old) w (kept_of (side_of m))
+            → IfOk result (λ r. Moves (IsStores S.stands) w m (attempt_commit w.run.dialect w.run.opening w.run.made (open_of m session.0) session.0 m) (parts_of self.new) r told.old.items told.new.items made.old made.new) }
     {
         if self.holding.is_open(session) {
             return self.commit_open(session, told, made);
@@ -55,12 +56,12 @@ impl<S: Store> Transactions<S> {
         made: &mut Batch,
     ) -> Result<Attempted, NoMemory>
         requires here { IsHere (parts_of self.old) session.0 }
-        requires fits { (w : World) × (k : Kept) × Fits S.stands (parts_of self.old) w k }
+        requires fits { (w : World) × (k : Kept) × Fits (IsStores S.stands) (parts_of self.old) w k }
         requires opened { is_open_at self.old.holding session.0 ≡ true }
-        ensures { (w : World) (m : Machine) → Fits S.stands (parts_of self.old) w (kept_of (side_of m))
-            → IfOk result (λ r. Moves S.stands w m (attempt_commit w.run.dialect w.run.opening w.run.made (open_of m session.0) session.0 m) (parts_of self.new) r told.old.items told.new.items made.old made.new) }
+        ensures { (w : World) (m : Machine) → Fits (IsStores S.stands) (parts_of self.old) w (kept_of (side_of m))
+            → IfOk result (λ r. Moves (IsStores S.stands) w m (attempt_commit w.run.dialect w.run.opening w.run.made (open_of m session.0) session.0 m) (parts_of self.new) r told.old.items told.new.items made.old made.new) }
     {
-        self.seat(session)?;
+        self.seat_for_commit(session)?;
         match self.settle(session, made)? {
             Settled::Unchanged => {
                 self.leave(session)?;
@@ -100,9 +101,10 @@ impl<S: Store> Transactions<S> {
         session: SessionNo,
         told: &mut Vec<Words>,
     ) -> Result<Attempted, NoMemory>
-        requires { IsHere (parts_of self.old) session.0 }
-        ensures { (w : World) (m : Machine) → Fits S.stands (parts_of self.old) w (kept_of (side_of m))
-            → IfOk result (λ r. Moves S.stands w m (attempt_rollback w.run.dialect w.run.opening w.run.made (is_open m session.0) session.0 m) (parts_of self.new) r told.old.items told.new.items [] []) }
+        requires here { IsHere (parts_of self.old) session.0 }
+        requires fits { (w : World) × (k : Kept) × Fits (IsStores S.stands) (parts_of self.old) w k }
+        ensures { (w : World) (m : Machine) → Fits (IsStores S.stands) (parts_of self.old) w (kept_of (side_of m))
+            → IfOk result (λ r. Moves (IsStores S.stands) w m (attempt_rollback w.run.dialect w.run.opening w.run.made (is_open m session.0) session.0 m) (parts_of self.new) r told.old.items told.new.items [] []) }
     {
         tell_ok(self.alloc, told, None)?;
         if !self.holding.is_open(session) {
@@ -125,9 +127,10 @@ impl<S: Store> Transactions<S> {
         modes: Modes,
         told: &mut Vec<Words>,
     ) -> Result<Attempted, NoMemory>
-        requires { IsHere (parts_of self.old) entry.now.session.0 }
-        ensures { (w : World) (m : Machine) → Fits S.stands (parts_of self.old) w (kept_of (side_of m)) → w.run.dialect.request (entry_of entry.now).text ≡ request.Starts modes
-            → IfOk result (λ r. Moves S.stands w m (attempt_start w.run.dialect w.run.opening w.run.made (is_open m entry.now.session.0) modes (entry_of entry.now) m) (parts_of self.new) r told.old.items told.new.items [] []) }
+        requires here { IsHere (parts_of self.old) entry.now.session.0 }
+        requires fits { (w : World) × (k : Kept) × Fits (IsStores S.stands) (parts_of self.old) w k }
+        ensures { (w : World) (m : Machine) → Fits (IsStores S.stands) (parts_of self.old) w (kept_of (side_of m)) → w.run.dialect.request (entry_of entry.now).text ≡ request.Starts modes
+            → IfOk result (λ r. Moves (IsStores S.stands) w m (attempt_start w.run.dialect w.run.opening w.run.made (is_open m entry.now.session.0) modes (entry_of entry.now) m) (parts_of self.new) r told.old.items told.new.items [] []) }
     {
         if self.holding.is_open(entry.session) {
             return self.refuse(entry, "open transaction", told);
@@ -144,7 +147,7 @@ impl<S: Store> Transactions<S> {
     fn begin_with(&mut self, session: SessionNo, modes: Modes) -> Result<(), NoMemory>
         requires here { IsHere (parts_of self.old) session.0 }
         requires shut { is_open_at self.old.holding session.0 ≡ false }
-        ensures { (w : World) (m : Machine) → Fits S.stands (parts_of self.old) w (kept_of (side_of m)) → OnOk result (Fits S.stands (parts_of self.new) w (opened session.0 false (kept_of (side_of (named w.run.dialect w.run.opening w.run.made modes session.0 m))))) }
+        ensures { (w : World) (m : Machine) → Fits (IsStores S.stands) (parts_of self.old) w (kept_of (side_of m)) → OnOk result (Fits (IsStores S.stands) (parts_of self.new) w (opened session.0 false (kept_of (side_of (named w.run.dialect w.run.opening w.run.made modes session.0 m))))) }
     {
         let control = Control::Transaction(modes);
         self.holding.control(session, &control, self.alloc)?;

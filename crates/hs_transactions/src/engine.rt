@@ -14,6 +14,7 @@ ghost use Rattle.hs_moves.specs.Moves.{Moves};
 ghost use Rattle.hs_moves.specs.Parts.{Parts};
 ghost use Rattle.hs_transactions.specs.Parts.{parts_of};
 ghost use Rattle.hs_transactions.specs.Standing.{IsAt};
+ghost use Rattle.hs_snapshots.specs.Stores.{IsStores};
 
 use crate::transactions::Transactions;
 use hs_base::{NoMemory, SessionNo};
@@ -22,7 +23,7 @@ use hs_log::Batch;
 use hs_queue::Entry;
 use hs_seams::{Asked, Attempted, Engine, Store};
 
-impl<S: Store> Transactions<S> {
+impl<S: Store + Drop> Transactions<S> {
     // Reads an entry and attempts what it asks for. An `Err` is want of memory.
     fn run(
         &mut self,
@@ -33,12 +34,12 @@ impl<S: Store> Transactions<S> {
         made: &mut Batch,
     ) -> Result<Attempted, NoMemory>
         requires here { IsHere (parts_of self.old) entry.now.session.0 }
-        requires at { (w : World) × (m : Machine) × IsAt S.stands (parts_of self.old) w m }
+        requires at { (w : World) × (m : Machine) × IsAt (IsStores S.stands) (parts_of self.old) w m }
         requires entry { IsEntry entry.now }
-        ensures { (w : World) (m : Machine) → IsAt S.stands (parts_of self.old) w m → m.names ≡ names.now
-            → IfOk result (λ r. Moves S.stands w m (attempt w.run.dialect w.run.opening w.run.made is_first (entry_of entry.now) m) (parts_of self.new) r told.old.items told.new.items made.old made.new) }
+        ensures { (w : World) (m : Machine) → IsAt (IsStores S.stands) (parts_of self.old) w m → m.names ≡ names.now
+            → IfOk result (λ r. Moves (IsStores S.stands) w m (attempt w.run.dialect w.run.opening w.run.made is_first (entry_of entry.now) m) (parts_of self.new) r told.old.items told.new.items made.old made.new) }
     {
-        match self.store.read(entry)? {
+        match self.stores.read(entry)? {
             Asked::Faulty(why) => self.refuse(entry, why.as_str(), told),
             Asked::OfData(statement) => self.run_data(entry, &statement, names, told, made),
             Asked::OfDefinition(statement) => {
@@ -54,7 +55,7 @@ impl<S: Store> Transactions<S> {
     // A session whose entry waited and is answered waits for nobody any more. Takes no memory.
     fn settle_waits(&mut self, is_first: bool, is_final: bool, session: SessionNo)
         requires { IsSession session.0 }
-        ensures { (w : World) (side : Side) → IsNumber (length side.settings) session.0 → Fits S.stands (parts_of self.old) w (kept_of side) → Fits S.stands (parts_of self.new) w (kept_of (answered_by is_first is_final session.0 side)) }
+        ensures { (w : World) (side : Side) → IsNumber (length side.settings) session.0 → Fits (IsStores S.stands) (parts_of self.old) w (kept_of side) → Fits (IsStores S.stands) (parts_of self.new) w (kept_of (answered_by is_first is_final session.0 side)) }
     {
         if is_first {
             return;
@@ -66,18 +67,18 @@ impl<S: Store> Transactions<S> {
     }
 }
 
-impl<S: Store> Engine for Transactions<S> {
+impl<S: Store + Drop> Engine for Transactions<S> {
     ghost use Rattle.hs_transactions.specs.Parts.{parts_of};
     ghost use Rattle.hs_transactions.specs.Standing.{Stands};
 
-    ghost stands = { λ t w side. Stands S.stands (parts_of t) w side };
+    ghost stands = { λ t w side. Stands (IsStores S.stands) (parts_of t) w side };
 
     fn commits(&self) -> u64 {
         self.commits
     }
 
     fn admit(&mut self) -> Result<(), NoMemory> {
-        let level = self.store.level();
+        let level = self.stores.level();
         self.holding.admit(level, self.alloc)
     }
 

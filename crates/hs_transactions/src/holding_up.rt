@@ -11,6 +11,7 @@ ghost use Rattle.hs_moves.specs.Moves.{Moves};
 ghost use Rattle.hs_moves.specs.Parts.{Parts};
 ghost use Rattle.hs_transactions.specs.Judged.{AreBlockers, IsEvaluated};
 ghost use Rattle.hs_transactions.specs.Parts.{parts_of};
+ghost use Rattle.hs_snapshots.specs.Stores.{IsStores};
 
 use crate::telling::tell_deadlock;
 use crate::transactions::Transactions;
@@ -21,7 +22,7 @@ use hs_lines::{Names, Words};
 use hs_queue::Entry;
 use hs_seams::{Attempted, Store};
 
-impl<S: Store> Transactions<S> {
+impl<S: Store + Drop> Transactions<S> {
     // A data statement waits for the sessions that are in its way, without its changes. Where waits lead back to its own
     // session from one of them, it is refused, and its transaction ends. An `Err` is want of memory.
     pub(crate) fn hold_up(
@@ -32,9 +33,10 @@ impl<S: Store> Transactions<S> {
         names: &Names,
         told: &mut Vec<Words>,
     ) -> Result<Attempted, NoMemory>
-        requires { IsHere (parts_of self.old) entry.now.session.0 }
-        ensures { (w : World) (m : Machine) (o : Outcome) → IsEvaluated S.stands (parts_of self.old) w m (entry_of entry.now) own o → AreBlockers self.old.holding entry.now.session.0 own o blockers → IsBlocked w m (entry_of entry.now) → m.names ≡ names.now
-            → IfOk result (λ r. Moves S.stands w m (attempt_data w.run.dialect w.run.opening w.run.made (entry_of entry.now) m) (parts_of self.new) r told.old.items told.new.items [] []) }
+        requires here { IsHere (parts_of self.old) entry.now.session.0 }
+        requires at { (w : World) × (m : Machine) × (o : Outcome) × IsEvaluated (IsStores S.stands) (parts_of self.old) w m (entry_of entry.now) own o }
+        ensures { (w : World) (m : Machine) (o : Outcome) → IsEvaluated (IsStores S.stands) (parts_of self.old) w m (entry_of entry.now) own o → AreBlockers self.old.kind self.old.holding entry.now.session.0 own o blockers → IsBlocked w m (entry_of entry.now) → m.names ≡ names.now
+            → IfOk result (λ r. Moves (IsStores S.stands) w m (attempt_data w.run.dialect w.run.opening w.run.made (entry_of entry.now) m) (parts_of self.new) r told.old.items told.new.items [] []) }
     {
         self.withdraw(entry.session, own.auto)?;
         match self.holding.leading_back(entry.session, blockers) {

@@ -1,4 +1,5 @@
 // What entries are told.
+ghost use Rattle.std.specs.Fmt.{decimal};
 ghost use Rattle.std.specs.Prelude.{◌≡◌, ◌++◌, ◌∷◌, [], None, codes, IfOk, OnOk};
 ghost use Rattle.hs_lines.specs.Names.{name_in};
 ghost use Rattle.hs_lines.specs.declared.words.Words.TheVariants as said;
@@ -8,6 +9,7 @@ ghost use Rattle.hs_moves.specs.Answers as spec;
 use hs_base::{CommitNo, NoMemory, SessionNo};
 use hs_lines::{Names, Words};
 use hs_values::Chars;
+use itoa::Buffer;
 use std::alloc::Global;
 
 // An entry is done. An `Err` is want of memory.
@@ -60,6 +62,29 @@ pub(crate) fn tell_deadlock(
     ensures { OnOk result (told.new.items ≡ spec.refusal_told told.old.items (codes "deadlock with " ++ name_in names.now back.0)) }
 {
     let why = deadlock(alloc, names, back)?;
+    tell_refusal(alloc, told, why.as_str())?;
+    Ok(())
+}
+
+// Why it is refused where a commit conflicts with it. An `Err` is want of memory.
+fn conflict(alloc: Global, number: CommitNo) -> Result<Chars, NoMemory>
+    ensures { IfOk result (λ why. why ≡ codes "conflict with " ++ decimal number.0) }
+{
+    let mut why = Chars::from_text(alloc, "conflict with ")?;
+    let mut digits = Buffer::new();
+    why.push_text(digits.format(number.0))?;
+    Ok(why)
+}
+
+// A commit conflicts with it. An `Err` is want of memory.
+pub(crate) fn tell_conflict(
+    alloc: Global,
+    told: &mut Vec<Words>,
+    number: CommitNo,
+) -> Result<(), NoMemory>
+    ensures { OnOk result (told.new.items ≡ spec.refusal_told told.old.items (codes "conflict with " ++ decimal number.0)) }
+{
+    let why = conflict(alloc, number)?;
     tell_refusal(alloc, told, why.as_str())?;
     Ok(())
 }

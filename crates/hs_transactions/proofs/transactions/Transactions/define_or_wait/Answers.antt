@@ -6,6 +6,7 @@ use Rattle.hs_controls.proofs.Waiting.{goes, quiet_none}
 use Rattle.hs_moves.specs.Fits.{kept_of}
 use Rattle.hs_queue.specs.Entries.{entry_of}
 use Rattle.hs_sides.specs.Sides.{side_of}
+use Rattle.hs_snapshots.specs.Stores.{IsStores}
 use Rattle.hs_transactions.specs.Parts.{parts_of}
 use Rattle.hs_transactions.proofs.Calling.{at_texts}
 use Rattle.hs_transactions.proofs.transactions.Transactions.define_or_wait.Goals as goal
@@ -23,12 +24,12 @@ define-requires-clause-quiet g c = quiet g (goal.at.define-requires-clause-quiet
 pub returns-then-is_empty : goal.returns-then-is_empty
 returns-then-is_empty g c = λ w m at names asks.
     IfOk-weaker c.define.result _ _
-    (λ r h. goes g.S.Store.stands w m (parts_of c.define.new.self) r c.args.told.now.items c.define.new.told.items (entry_of c.args.entry.now) c.args.made.now c.define.new.made
+    (λ r h. goes (IsStores g.S.Store.stands) w m (parts_of c.define.new.self) r c.args.told.now.items c.define.new.told.items (entry_of c.args.entry.now) c.args.made.now c.define.new.made
     (quiet_none c.args.self.now.holding (kept_of (side_of m)) at.stands.fits.rests.holds (quiet g (goal.at.returns-then-is_empty g c).Then-is_empty)) h)
     (c.define.ensures w m at asks)
 
 pub returns : goal.returns
 returns g c = λ w m at names asks.
     IfOk-weaker c.hold_up_definition.result _ _
-    (λ r h. at_texts g.S.Store.stands w m _ (parts_of c.hold_up_definition.new.self) r c.args.told.now.items c.hold_up_definition.new.told.items c.args.made.now c.args.made.now refl h)
+    (λ r h. at_texts (IsStores g.S.Store.stands) w m _ (parts_of c.hold_up_definition.new.self) r c.args.told.now.items c.hold_up_definition.new.told.items c.args.made.now c.args.made.now refl h)
     (c.hold_up_definition.ensures w m at names c.open_sessions-holders.ensures (λ none. iff_false c.is_empty.ensures c.if-is_empty.false (λ b n. c.open_sessions-holders.ensures b n ∙ none b n)))
