@@ -3,7 +3,7 @@ use Rattle.std.proofs.Common.{◌≡◌, ℕ, suc, ◌+◌, ◌^◌, ◌<◌, �
 use Rattle.std.specs.Prelude.{is_none}
 use Rattle.std.proofs.Math.Seq.{take-suc}
 use Rattle.std.proofs.lemmas.Bool.{and_from, and_parts}
-use Rattle.hs_applicable.specs.Applicable.{keeps_locks, may_make, may_make_each}
+use Rattle.hs_applicable.specs.Applicable.{may_make, may_make_each}
 use Rattle.hs_applicable.specs.Bound.{is_proper}
 use Rattle.hs_applicable.proofs.Behind.{behind}
 use Rattle.hs_applicable.proofs.Keeping.{sound_more}
@@ -28,8 +28,7 @@ use Rattle.hs_instance.specs.Lawful.{IsLawful, takes, takes_each}
 module _ (db : Database) (old : Instance) (s : IsLawful [] old db) where
   pub bound_of : (definition : Definition) → may_make db (change.Define definition) ≡ true → IsBound old.catalog definition
   bound_of definition may =
-      let here = and_parts (keeps_locks definition) (is_proper db.things definition && is_none (still_referenced db.things definition)) may in
-      let may_be = and_parts (is_proper db.things definition) (is_none (still_referenced db.things definition)) here.1 in
+      let may_be = and_parts (is_proper db.things definition) (is_none (still_referenced db.things definition)) may in
       subst (λ (things : Things). IsBound things definition) (sym s.is.things) (proper_from db.things definition may_be.0).bound
 
   pub next_of : (definition : Definition) → IsNext old.catalog definition (old.count + 1)

@@ -4,6 +4,7 @@
 #![tactic(auto)]
 
 mod committing;
+mod copying;
 mod defining;
 mod instance;
 pub mod laws;
@@ -16,4 +17,5 @@ mod testing;
 pub use committing::commit_lawful;
 pub use instance::Instance;
 pub use restoring::Restoring;
+pub use settings::kind_of;
 pub use testing::may_be_made;

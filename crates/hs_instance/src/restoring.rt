@@ -1,4 +1,8 @@
 // A database in memory as one on which commits are made again.
+ghost use Rattle.std.specs.Prelude.{IfOk};
+ghost use Rattle.hs_turns.specs.Database.{Database};
+ghost use Rattle.hs_instance.specs.Lawful.{stands_for};
+
 use crate::instance::Instance;
 use crate::making::make_all;
 use hs_base::NoMemory;
@@ -10,6 +14,17 @@ use hs_schema::Catalog;
 #[derive(Drop)]
 pub struct Restoring {
     pub instance: Instance,
+}
+
+impl Restoring {
+    /// The database once more. An `Err` is want of memory, and what was copied by then is given back.
+    pub fn copy(&self) -> Result<Restoring, NoMemory>
+        ensures { (db : Database) → stands_for self.now db → IfOk result (λ copied. stands_for copied db) }
+    {
+        Ok(Restoring {
+            instance: self.instance.copy()?,
+        })
+    }
 }
 
 impl Restored for Restoring {

@@ -4,7 +4,19 @@ ghost use Rattle.hs_turns.specs.Definitions as spec;
 ghost use Rattle.hs_sessions.specs.Book as sessions;
 
 use hs_ast::{Isolation, TransactionControl};
+use hs_claims::ControlKind;
 use hs_plan::Definition;
+
+/// The model of transactions that a database with this setting has.
+pub fn kind_of(control: TransactionControl) -> ControlKind
+    ensures { result ≡ spec.kind_of control }
+{
+    match control {
+        TransactionControl::Locks => ControlKind::Locks,
+        TransactionControl::MvLocks => ControlKind::MvLocks,
+        TransactionControl::Mvcc => ControlKind::Mvcc,
+    }
+}
 
 /// The model of transactions behind a definition, from that before it.
 pub(crate) fn control_after(

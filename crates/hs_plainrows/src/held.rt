@@ -6,6 +6,7 @@ ghost use Rattle.hs_changes.specs.Settings.{with_values};
 ghost use Rattle.hs_keyed.specs.Kept.{rows_of};
 ghost use Rattle.hs_rows.specs.Numbers.{next_in, row_in};
 ghost use Rattle.hs_plainrows.specs.Held.{rows_at};
+ghost use Rattle.hs_plainrows.specs.Tables.{IsNextTable};
 
 use hs_base::{NoMemory, RowNo, TableNo};
 use hs_values::Row;
@@ -71,6 +72,38 @@ fn first_behind(rows: &BTreeMap<u64, Row>, row: RowNo) -> Option<RowNo>
     let behind = (Bound::Excluded(row.0), Bound::Unbounded);
     match rows.range(behind).next() {
         Some((number, _)) => Some(RowNo(*number)),
+        None => None,
+    }
+}
+
+/// The table with the least number behind this one, or the first table.
+pub(crate) fn next_table(
+    tables: &BTreeMap<u64, BTreeMap<u64, Row>>,
+    after: Option<TableNo>,
+) -> Option<TableNo>
+    ensures { IsNextTable (rows_at tables.now.entries) after result }
+{
+    match after {
+        None => first_table(tables),
+        Some(table) => first_table_behind(tables, table),
+    }
+}
+
+fn first_table(tables: &BTreeMap<u64, BTreeMap<u64, Row>>) -> Option<TableNo>
+    ensures { IsNextTable (rows_at tables.now.entries) None result }
+{
+    match tables.iter().next() {
+        Some((number, _)) => Some(TableNo(*number)),
+        None => None,
+    }
+}
+
+fn first_table_behind(tables: &BTreeMap<u64, BTreeMap<u64, Row>>, table: TableNo) -> Option<TableNo>
+    ensures { IsNextTable (rows_at tables.now.entries) (Some table) result }
+{
+    let behind = (Bound::Excluded(table.0), Bound::Unbounded);
+    match tables.range(behind).next() {
+        Some((number, _)) => Some(TableNo(*number)),
         None => None,
     }
 }

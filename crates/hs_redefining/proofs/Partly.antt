@@ -1,5 +1,5 @@
 -- Rows that are kept twice, of which those of one table are changed up to a number.
-use Rattle.std.proofs.Common.{◌≡◌, ℕ, suc, [], ◌∷◌, Option, Some, None, sym, ap, subst, ◌∙◌}
+use Rattle.std.proofs.Common.{◌≡◌, ℕ, suc, [], ◌∷◌, Option, Some, None, ap, subst, ◌∙◌}
 use Rattle.std.specs.FinMap.{empty, get}
 use Rattle.hs_base.specs.declared.numbers.RowNo.{RowNo}
 use Rattle.hs_changes.specs.Settings.{Maps, set_row, with_values}
@@ -9,23 +9,12 @@ use Rattle.hs_plainrows.specs.Ready.{tables_of}
 use Rattle.hs_rows.specs.Numbers.{next_in, start}
 use Rattle.hs_seated.specs.declared.both_rows.BothRows.{BothRows}
 use Rattle.hs_seated.specs.Rows.{AreRows}
+use Rattle.hs_seated.proofs.Mixed.{set_in}
+use Rattle.hs_seated.proofs.Partly.{ArePartly}
 use Rattle.hs_values.specs.declared.value.Value.{Value}
 use Rattle.hs_redefining.specs.Longer.{AreWithin, longer}
 use Rattle.hs_redefining.proofs.Effects.{its_rows}
-use Rattle.hs_redefining.proofs.Mixed.{AreMixed, changed_all, cleared_on, lengthened_on, none_mixed, same_rows, set_in}
-
--- the table has these rows up to a number, and its own from it on; the others are as they were
-pub record ArePartly (table : ℕ) (target : Rows) (maps : Maps) (n : ℕ) (both : BothRows) : Type 0 where
-  pub held : Rows
-  pub rows : AreRows (with_rows table held maps) both
-  pub mixed : AreMixed target (maps table) n held
-
-pub partly_none : (table : ℕ) (target : Rows) (maps : Maps) (rows : BothRows) → AreRows maps rows → ArePartly table target maps (start None) rows
-partly_none table target maps rows are = record {
-  held = maps table;
-  rows = subst (λ (m : Maps). AreRows m rows) (sym (same_rows table maps)) are;
-  mixed = none_mixed target (maps table);
-}
+use Rattle.hs_redefining.proofs.Mixed.{changed_all, cleared_on, lengthened_on}
 
 module _ (table : ℕ) (maps : Maps) (rows : BothRows) where
   -- what the rows of the table are

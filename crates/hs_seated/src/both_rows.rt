@@ -7,6 +7,7 @@ ghost use Rattle.hs_plainrows.specs.Ready.{tables_of, IsReady};
 ghost use Rattle.hs_sentences.specs.Asking.{is_one_of};
 ghost use Rattle.hs_seated.specs.Rows.{AreRows};
 
+use crate::copying::copied_rows;
 use hs_base::{NoMemory, RowNo, TableNo};
 use hs_draft::Draft;
 use hs_plainrows::PlainRows;
@@ -94,5 +95,12 @@ impl BothRows {
         ensures touched { (t : ℕ) → touched self.new.draft t ≡ [] }
     {
         self.draft.accept();
+    }
+    /// The rows once more. They count as those before the changes to come. An `Err` is want of memory.
+    pub fn copy(&self, alloc: Global) -> Result<BothRows, NoMemory>
+        ensures rows { (maps : Maps) → AreRows maps self.now → IfOk result (AreRows maps) }
+        ensures touched { IfOk result (λ copied. (t : ℕ) → touched copied.draft t ≡ []) }
+    {
+        copied_rows(alloc, self)
     }
 }

@@ -3,6 +3,7 @@
 #![tactic(auto)]
 
 mod both_rows;
+mod copying;
 mod making;
 mod numbering;
 mod seated;

@@ -55,8 +55,8 @@ fn copied(row: Option<&Row>) -> Result<Option<Row>, NoMemory>
     }
 }
 
-// What a row is, None where it isn't there.
-fn kept(draft: &Draft, table: TableNo, row: RowNo) -> Result<Option<Row>, NoMemory>
+/// What a row is, None where it isn't there.
+pub(crate) fn kept(draft: &Draft, table: TableNo, row: RowNo) -> Result<Option<Row>, NoMemory>
     ensures { IfOk result (λ old. old ≡ get (after draft.now table.0) row.0) }
 {
     copied(draft.rows(table).get(row))
@@ -244,5 +244,11 @@ impl Seated {
         ensures inserted { inserted_in self.new ≡ inserted_in self.old }
     {
         self.rows.accept();
+    }
+    /// The rows once more, where no changes are on them, with none either. An `Err` is want of memory.
+    pub fn copy(&self, alloc: Global) -> Result<Seated, NoMemory>
+        ensures { (maps : Maps) → IsSeated maps [] self.now → IfOk result (IsSeated maps []) }
+    {
+        Ok(Seated::over(alloc, self.rows.copy(alloc)?))
     }
 }

@@ -5,7 +5,8 @@ use Rattle.hs_draft.specs.Drafted.{after}
 use Rattle.hs_index.specs.Table.{Rows}
 use Rattle.hs_rows.specs.Numbers.{next_in}
 use Rattle.hs_redefining.specs.Longer.{longer}
-use Rattle.hs_redefining.proofs.Mixed.{AreMixed, copied_all, copied_on, none_mixed, set_elsewhere, set_here, table_set}
+use Rattle.hs_seated.proofs.Mixed.{AreMixed, none_mixed}
+use Rattle.hs_redefining.proofs.Mixed.{copied_all, copied_on, set_elsewhere, set_here, table_set}
 use Rattle.hs_redefining.proofs.copying.copy_table.Goals as goal
 
 pub loop-row-init : goal.loop-row-init

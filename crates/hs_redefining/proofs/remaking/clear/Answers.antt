@@ -1,6 +1,7 @@
 use Rattle.std.specs.FinMap.{empty}
 use Rattle.hs_redefining.proofs.Mixed.{none_within}
-use Rattle.hs_redefining.proofs.Partly.{partly_all, partly_cleared, partly_none}
+use Rattle.hs_seated.proofs.Partly.{partly_none}
+use Rattle.hs_redefining.proofs.Partly.{partly_all, partly_cleared}
 use Rattle.hs_redefining.proofs.remaking.clear.Goals as goal
 
 pub loop-row-init : goal.loop-row-init

@@ -1,6 +1,7 @@
 use Rattle.hs_turns.specs.Definitions.{lengthened}
 use Rattle.hs_redefining.proofs.Mixed.{longer_within}
-use Rattle.hs_redefining.proofs.Partly.{partly_all, partly_lengthened, partly_none}
+use Rattle.hs_seated.proofs.Partly.{partly_none}
+use Rattle.hs_redefining.proofs.Partly.{partly_all, partly_lengthened}
 use Rattle.hs_redefining.proofs.remaking.lengthen.Goals as goal
 
 pub loop-row-init : goal.loop-row-init
