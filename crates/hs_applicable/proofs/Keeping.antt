@@ -27,7 +27,7 @@ use Rattle.hs_schema.specs.declared.table.Table.{Table}
 use Rattle.hs_sentences.specs.Violations.{first_violated}
 use Rattle.hs_values.specs.SqlType.{row_fits}
 use Rattle.hs_values.specs.declared.value.Value.{Value}
-use Rattle.hs_applicable.specs.Applicable.{fits_table, has_row, keeps_locks, may_make, may_make_all, may_make_each, takes_row}
+use Rattle.hs_applicable.specs.Applicable.{fits_table, has_row, may_make, may_make_all, may_make_each, takes_row}
 use Rattle.hs_applicable.specs.Bound.{is_proper}
 use Rattle.hs_applicable.specs.SoundDatabase.{IsSoundDatabase, is_sound_database}
 use Rattle.hs_applicable.proofs.Tested.{none_is, proper_from}
@@ -85,8 +85,7 @@ module _ (db : Database) (s : IsSoundDatabase db) (room : db.count + 1 ≤ 2 ^ 4
   defined_sound : (definition : Definition) → may_make db (change.Define definition) ≡ true → IsSoundDatabase (defined definition db)
   defined_sound definition may =
       let behind : Database = defined definition db in
-      let here = and_parts (keeps_locks definition) (is_proper db.things definition && is_none (still_referenced db.things definition)) may in
-      let may_be = and_parts (is_proper db.things definition) (is_none (still_referenced db.things definition)) here.1 in
+      let may_be = and_parts (is_proper db.things definition) (is_none (still_referenced db.things definition)) may in
       let proper = proper_from db.things definition may_be.0 in
       let sound : is_sound behind.things ≡ true =
       sound_after db.things (db.count + 1) definition rest.0 (is_next db.things db.count parts.0 definition) proper (none_is (still_referenced db.things definition) may_be.1) in

@@ -1,6 +1,5 @@
 pub mod Behind
 pub mod Indexes
 pub mod Keeping
-pub mod Locks
 pub mod RowsSet
 pub mod Tested

@@ -2,7 +2,6 @@
 use Rattle.std.specs.Prelude.{◌&&◌, not, Bool, true, false, List, [], ◌∷◌, is_none, is_some}
 use Rattle.std.specs.FinMap.{get}
 use Rattle.std.specs.Option.{option_map_or}
-use Rattle.hs_ast.specs.declared.session.TransactionControl.TheVariants as control
 use Rattle.hs_base.specs.declared.numbers.RowNo.{RowNo}
 use Rattle.hs_base.specs.declared.numbers.TableNo.{TableNo}
 use Rattle.hs_changes.specs.Settings.{Maps}
@@ -12,7 +11,6 @@ use Rattle.hs_language.specs.Validity.{is_long, types_in}
 use Rattle.hs_plan.specs.declared.change.Change.{Change}
 use Rattle.hs_plan.specs.declared.change.Change.TheVariants as change
 use Rattle.hs_plan.specs.declared.definition.Definition.{Definition}
-use Rattle.hs_plan.specs.declared.definition.Definition.TheVariants as d
 use Rattle.hs_rowtext.specs.Rows.{types_of}
 use Rattle.hs_schema.specs.Catalogue.{Things, table_numbered}
 use Rattle.hs_values.specs.SqlType.{row_fits}
@@ -34,16 +32,9 @@ has_row rows table row = is_some (get (rows table.0) row.0)
 
 -- ---- definitions
 
--- it leaves LOCKS, the one model that runs have
-abbrev pub keeps_locks : Definition → Bool
-keeps_locks (d.SetControl control.Locks) = true
-keeps_locks (d.SetControl control.MvLocks) = false
-keeps_locks (d.SetControl control.Mvcc) = false
-keeps_locks _ = true
-
--- so it does, it is proper, and it drops nothing that a foreign key references
+-- it is proper, and it drops nothing that a foreign key references
 abbrev pub may_define : Things → Definition → Bool
-may_define things definition = keeps_locks definition && (is_proper things definition && is_none (still_referenced things definition))
+may_define things definition = is_proper things definition && is_none (still_referenced things definition)
 
 -- ---- changes
 

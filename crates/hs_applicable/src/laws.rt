@@ -1,10 +1,9 @@
-//! Laws of changes that may be made, each on a function that does nothing. Proofs of other crates cite them from `Tested.antt`,
-//! `Keeping.antt` and `Locks.antt` in `proofs/`.
+//! Laws of changes that may be made, each on a function that does nothing. Proofs of other crates cite them from `Tested.antt` and
+//! `Keeping.antt` in `proofs/`.
 ghost use Rattle.std.specs.Prelude.{◌≡◌, ◌↔◌, List, [], ◌++◌, ◌&&◌, true, None};
 ghost use Rattle.hs_applicable.specs.Applicable.{may_make_all, may_make_each};
 ghost use Rattle.hs_applicable.specs.Bound.{is_bound, is_proper};
 ghost use Rattle.hs_applicable.specs.SoundDatabase.{IsSoundDatabase};
-ghost use Rattle.hs_claims.specs.declared.model.ControlKind.TheVariants.{Locks};
 ghost use Rattle.hs_turns.specs.Database.{Database, apply};
 ghost use Rattle.hs_language.specs.Sql.{is_valid};
 ghost use Rattle.hs_language.specs.Validity.{lets_pass};
@@ -24,11 +23,6 @@ pub fn the_tests_of_definitions_are_exact()
 /// is sound, and each row fits its columns.
 pub fn a_database_stays_sound()
     ensures { (db : Database) (changes : List Change) → IsSoundDatabase db → may_make_all db changes ≡ true → IsSoundDatabase (apply db changes) }
-{}
-
-/// Changes that may be made leave a database under LOCKS so.
-pub fn a_database_stays_under_locks()
-    ensures { (db : Database) (changes : List Change) → db.control ≡ Locks → may_make_all db changes ≡ true → (apply db changes).control ≡ Locks }
 {}
 
 /// Changes may be made one behind another exactly where the first may be, and the others behind them.

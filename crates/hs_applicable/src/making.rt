@@ -1,54 +1,26 @@
 // Whether a change may be made.
-ghost use Rattle.std.specs.Prelude.{◌≡◌, ◌&&◌, ℕ, is_none};
+ghost use Rattle.std.specs.Prelude.{◌≡◌, ℕ};
 ghost use Rattle.hs_applicable.specs.Applicable as spec;
-ghost use Rattle.hs_applicable.specs.Bound as bound;
 ghost use Rattle.hs_turns.specs.Database.{Database};
 ghost use Rattle.hs_draft.specs.Drafted.{after};
-ghost use Rattle.hs_language.specs.Definitions.{still_referenced};
 
 use crate::dropping::drops_freely;
 use crate::proper::is_proper;
 use crate::rows::may_make_row;
-use hs_ast::TransactionControl;
 use hs_draft::Draft;
 use hs_plan::{Change, Definition};
 use hs_schema::Catalog;
 
-// Whether it leaves LOCKS, the one model that runs have.
-fn keeps_locks(definition: &Definition) -> bool
-    ensures { result ≡ spec.keeps_locks definition.now }
-{
-    match definition {
-        Definition::SetControl(TransactionControl::Locks) => true,
-        Definition::SetControl(TransactionControl::MvLocks) => false,
-        Definition::SetControl(TransactionControl::Mvcc) => false,
-        Definition::CreateTable { .. } => true,
-        Definition::DropTable(_) => true,
-        Definition::AddColumn { .. } => true,
-        Definition::AddConstraint { .. } => true,
-        Definition::DropConstraint { .. } => true,
-        Definition::CreateIndex { .. } => true,
-        Definition::DropIndex(_) => true,
-        Definition::SetDefaultLevel { .. } => true,
-    }
-}
-
 // Whether it is proper, and drops nothing that a foreign key references.
-fn is_free(cat: &Catalog, definition: &Definition) -> bool
-    ensures { result ≡ (bound.is_proper cat.now definition.now && is_none (still_referenced cat.now definition.now)) }
+fn may_define(cat: &Catalog, definition: &Definition) -> bool
+    ensures { result ≡ spec.may_define cat.now definition.now }
 {
     is_proper(cat, definition) && drops_freely(cat, definition)
 }
 
-fn may_define(cat: &Catalog, definition: &Definition) -> bool
-    ensures { result ≡ spec.may_define cat.now definition.now }
-{
-    keeps_locks(definition) && is_free(cat, definition)
-}
-
 /// Whether a change may be made on a database as one of a commit, with the number that its row has behind this. A change of a row:
 /// its table is there, and a row that is put or deleted too; the values that it gets fit the columns, and take at most 4,000 bytes.
-/// A definition: it leaves LOCKS, is proper, and drops nothing that a foreign key references. Takes no memory.
+/// A definition: it is proper, and drops nothing that a foreign key references. Takes no memory.
 pub fn may_make(cat: &Catalog, draft: &Draft, change: &Change) -> bool
     ensures { (db : Database) → db.things ≡ cat.now → ((t : ℕ) → after draft.now t ≡ db.rows t) → result ≡ spec.may_make db change.now }
 {

@@ -4,7 +4,6 @@ pub mod Catalogues
 pub mod Lawful
 pub mod LawfulTrees
 pub mod Lists
-pub mod Locks
 pub mod PlainReading
 pub mod PlainSql
 pub mod Readings

@@ -5,8 +5,8 @@
 //! snapshots, as the model says, and leave valid databases behind each commit.
 //!
 //! It is plain: why an entry is no statement can't be taken for the end of a line that tells of a commit, nor why a
-//! statement isn't bound. And no definition leaves LOCKS, so that each run over a valid database under LOCKS is such a
-//! world as a store and the turns ask for. It has laws alone, on functions that do nothing.
+//! statement isn't bound. Each run over a valid database, whatever its model, is such a world as a store and the turns
+//! ask for. It has laws alone, on functions that do nothing.
 #![tactic(auto)]
 
 pub mod laws;

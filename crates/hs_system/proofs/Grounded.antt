@@ -46,6 +46,4 @@ module _ (is_named : Things → Bool) (Regular : Database → Type 0) (y : Syste
       record {
         laws = language.laws;
         opened = (regular.valid room sound.clean, regular.rows);
-        locks = regular.locks;
-        keeps = language.keeps;
       }

@@ -1,35 +1,29 @@
 -- What is asked of a database system.
-use Rattle.std.specs.Prelude.{◌≡◌, ℕ, Bool, true, List, Ok, None, Option}
+use Rattle.std.specs.Prelude.{◌≡◌, ℕ, Bool, true, List, None, Option}
 use Rattle.hs_base.specs.declared.numbers.SessionNo.{SessionNo}
-use Rattle.hs_claims.specs.declared.model.ControlKind.TheVariants.{Locks}
 use Rattle.hs_committext.specs.Commits.{IsCommitText}
 use Rattle.hs_turns.specs.Database.{Database, IsNumbered, apply}
-use Rattle.hs_turns.specs.Definitions.{control_after}
 use Rattle.hs_turns.specs.Histories.{Commit}
 use Rattle.hs_turns.specs.Language.{Laws}
 use Rattle.hs_logged.specs.Over.{TestsTexts}
 use Rattle.hs_plan.specs.declared.change.Change.{Change}
-use Rattle.hs_plan.specs.declared.definition.Definition.{Definition}
 use Rattle.hs_plainwords.specs.Dialects.{IsPlainDialect}
-use Rattle.hs_schema.specs.Catalogue.{Text, Things}
+use Rattle.hs_schema.specs.Catalogue.{Things}
 use Rattle.hs_turns.specs.Dialect.{Dialect, language_of}
-use Rattle.hs_turns.specs.Dialect.{Request as request}
 use Rattle.hs_system.specs.System.{System}
 
--- What a language with some room in the log is to be: it has this room, it meets the laws of transactions, what it tells is
--- plain over catalogues with such names, and no definition leaves LOCKS.
+-- What a language with some room in the log is to be: it has this room, it meets the laws of transactions, and what it tells
+-- is plain over catalogues with such names.
 pub record IsLanguage (is_named : Things → Bool) (room : List Commit → Commit → Bool) (d : Dialect) : Type 0 where
   pub room_ : (commits : List Commit) (k : Commit) → d.has_log_room commits k ≡ room commits k
   pub laws : Laws (language_of d)
   pub plain : IsPlainDialect is_named d
-  pub keeps : (db : Database) (text : Text) (definition : Definition) → d.request text ≡ request.OfDefinition → d.definition db text ≡ Ok definition → control_after definition Locks ≡ Locks
 
--- What is so of a database whichever constraints hold: its catalogue has such names, no row has a number above that of the last
--- change, and the model is LOCKS. Where no constraint is violated it is valid, and else it isn't.
+-- What is so of a database whichever constraints hold: its catalogue has such names, and no row has a number above that of the
+-- last change. Where no constraint is violated it is valid, and else it isn't.
 pub record IsRegular (is_named : Things → Bool) (y : System) (db : Database) : Type 0 where
   pub named : is_named db.things ≡ true
   pub rows : IsNumbered db
-  pub locks : db.control ≡ Locks
   pub valid : (room : List Commit → Commit → Bool) → y.violated db ≡ None → (y.dialect room).is_valid db ≡ true
 
 -- The language is one, with any room in the log, and a test tells which commits have a text. The empty database violates nothing,

@@ -15,7 +15,8 @@ pub fn what_texts_make_is_regular<S: Governed>()
     ensures counted { (texts : List (List ℕ)) (at : State) → Make S.system (first S.system) texts at → length texts ≤ at.database.count }
 {}
 
-/// A run over what texts made, where no constraint is violated, is in a world that keeps what LOCKS promises.
+/// A run over what texts made, where no constraint is violated, is in a world that keeps what its model of
+/// transactions promises.
 pub fn a_run_over_a_log_has_a_world<S: Governed>()
     ensures { (texts : List (List ℕ)) (at : State) (made size : ℕ) → IsSound S.system texts at → IsWorld (world_of S.system at made size) }
 {}

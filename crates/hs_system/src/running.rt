@@ -12,7 +12,7 @@ ghost use Rattle.hs_seams.specs.Stores.{IsWorld};
 use crate::governed::Governed;
 
 /// What texts of a log made has as many changes as commits at least, and a run over it, where no constraint is violated, is in a world
-/// that keeps what LOCKS promises.
+/// that keeps what its model of transactions promises.
 pub fn what_is_opened_has_a_world<S: Governed>()
     ensures counted { (opened : Opened) → IsReached (meaning_of S.system) opened → opened.commits ≤ opened.database.count }
     ensures world { (opened : Opened) (size : ℕ) → IsSound (meaning_of S.system) opened → IsWorld (world_at S.system opened size) }
