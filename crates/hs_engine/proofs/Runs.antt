@@ -15,7 +15,7 @@ use Rattle.hs_turns.specs.Histories.{state}
 use Rattle.hs_turns.specs.Laws.{is_item}
 use Rattle.hs_turns.specs.Lines.{printed, replies_among}
 use Rattle.hs_turns.specs.Machine.{start}
-use Rattle.hs_turns.specs.Promises.{AreMade, EachEnded, IsCommitted, IsInOrder, IsSerial}
+use Rattle.hs_turns.specs.Promises.{AreMade, EachEnded, IsCommitted, IsFirst, IsInOrder, IsSerial, IsSnapshot}
 use Rattle.hs_turns.specs.Turns.{after, weight}
 use Rattle.hs_turns.proofs.Answered.{nothing_owed, run_good}
 use Rattle.hs_turns.proofs.Ends.{over}
@@ -58,6 +58,12 @@ module _ (opened : Opened) (size : ℕ) (items : List Item) where
 
       pub made_by : AreMade (history_over opened size items n).commits (history_over opened size items n).ended
       made_by = promised.made_by (world_over opened size).run.dialect opened.database opened.commits world.laws world.opened items n
+
+      pub snapshot : EachEnded (history_over opened size items n) (IsSnapshot (language_over opened size) opened.database)
+      snapshot = promised.snapshots (world_over opened size).run.dialect opened.database opened.commits world.laws world.opened items n
+
+      pub first : EachEnded (history_over opened size items n) IsFirst
+      first = promised.first (world_over opened size).run.dialect opened.database opened.commits world.laws world.opened items n
 
       pub valid : (k : ℕ) → is_valid (state opened.database (history_over opened size items n).commits k) ≡ true
       valid k = promised.valid (world_over opened size).run.dialect opened.database opened.commits world.laws world.opened items n k

@@ -2,7 +2,6 @@
 use Rattle.std.specs.Prelude.{◌≡◌, ◌^◌, Bool, true, List}
 use Rattle.hs_applicable.specs.Applicable.{may_make_all}
 use Rattle.hs_applicable.specs.SoundDatabase.{IsSoundDatabase}
-use Rattle.hs_claims.specs.declared.model.ControlKind.TheVariants.{Locks}
 use Rattle.hs_conditions.specs.Texts.{checks}
 use Rattle.hs_turns.specs.Database.{Database}
 use Rattle.hs_turns.specs.Histories.{Commit}
@@ -32,8 +31,7 @@ sql_system = record {
 }
 
 -- What is so of each database that the texts of a log made: things and rows are numbered by the changes that made them, the catalogue
--- is sound, each row fits its columns, the model is LOCKS, and constraints have names without line feeds.
+-- is sound, each row fits its columns, and constraints have names without line feeds. Its model is whichever a definition set.
 pub record IsRegular (db : Database) : Type 0 where
   pub sound : IsSoundDatabase db
-  pub locks : db.control ≡ Locks
   pub named : are_named db.things ≡ true

@@ -20,7 +20,7 @@ ghost use Rattle.hs_texttest.specs.Told.{TestsConditions};
 ghost use Rattle.hs_turns.specs.Histories.{state};
 ghost use Rattle.hs_turns.specs.Laws.{is_item};
 ghost use Rattle.hs_turns.specs.Lines.{printed, replies_among};
-ghost use Rattle.hs_turns.specs.Promises.{AreMade, EachEnded, IsCommitted, IsInOrder, IsSerial};
+ghost use Rattle.hs_turns.specs.Promises.{AreMade, EachEnded, IsCommitted, IsFirst, IsInOrder, IsSerial, IsSnapshot};
 
 /// A test tells which conditions of CHECK have a text, and so `has_text` tells which commits have one.
 pub fn texts_of_sql_are_tested()
@@ -41,15 +41,23 @@ pub fn a_run_of_sql_is_that_of_the_machine()
     ensures replied { (opened : Opened) (size : ℕ) (items : List Item) (number : ℕ) → replies_among number (lines_over opened size items) ≡ count_by (is_item number) items }
 {}
 
-/// Such a run keeps what LOCKS promises, after any number of turns, where no constraint was violated when it began. A transaction at
-/// SERIALIZABLE answers as if it ran alone on the commits just before its end (`serial`), and where it was committed the next state
-/// is what its statements make of the state before, alone there (`in_order`). Each commit is the changes of such a transaction or a
-/// definition (`committed`, `made_by`). In the state after each number of commits every constraint holds, and each row fits its
-/// columns (`valid`).
-pub fn runs_of_sql_keep_locks()
+/// Such a run keeps what the models of transactions promise, after any number of turns, where no constraint was violated when it
+/// began. Definitions may set the model, and each transaction that ended has what the one promises that it ran under.
+///
+/// Under LOCKS, and under MVLOCKS where it may write, a transaction at REPEATABLE READ or SERIALIZABLE answers as if it ran alone on
+/// the commits just before its end (`serial`), and where it was committed the next state is what its statements make of the state
+/// before, alone there (`in_order`). A read-only one under MVLOCKS, and one at REPEATABLE READ or SERIALIZABLE under MVCC, answers as
+/// if it ran alone on the commits before its start, and changes the same (`snapshot`). Such a one under MVCC puts or deletes no
+/// committed row that a commit between its start and its end puts or deletes (`first`).
+///
+/// Under each model a commit is the changes of one transaction or a definition (`committed`, `made_by`), and in the state after each
+/// number of commits every constraint holds, and each row fits its columns (`valid`).
+pub fn runs_of_sql_keep_their_models()
     ensures serial { (opened : Opened) (size : ℕ) (items : List Item) (n : ℕ) → IsSound sql_meaning opened → EachEnded (history_over opened size items n) (IsSerial (language_over opened size) opened.database) }
     ensures in_order { (opened : Opened) (size : ℕ) (items : List Item) (n : ℕ) → IsSound sql_meaning opened → EachEnded (history_over opened size items n) (IsInOrder (language_over opened size) opened.database) }
     ensures committed { (opened : Opened) (size : ℕ) (items : List Item) (n : ℕ) → IsSound sql_meaning opened → EachEnded (history_over opened size items n) IsCommitted }
     ensures made_by { (opened : Opened) (size : ℕ) (items : List Item) (n : ℕ) → IsSound sql_meaning opened → AreMade (history_over opened size items n).commits (history_over opened size items n).ended }
+    ensures snapshot { (opened : Opened) (size : ℕ) (items : List Item) (n : ℕ) → IsSound sql_meaning opened → EachEnded (history_over opened size items n) (IsSnapshot (language_over opened size) opened.database) }
+    ensures first { (opened : Opened) (size : ℕ) (items : List Item) (n : ℕ) → IsSound sql_meaning opened → EachEnded (history_over opened size items n) IsFirst }
     ensures valid { (opened : Opened) (size : ℕ) (items : List Item) (n k : ℕ) → IsSound sql_meaning opened → is_valid (state opened.database (history_over opened size items n).commits k) ≡ true }
 {}

@@ -1,5 +1,5 @@
 //! SQL as the database of a run. Its commits are made again from the texts of a log, and entries of sessions take turns over it
-//! under LOCKS. Their statements come to exactly what SQL's language says, and a run of SQL over a log tells the truth.
+//! under LOCKS, MVLOCKS or MVCC. Their statements come to exactly what SQL's language says, and a run of SQL over a log tells the truth.
 #![tactic(auto)]
 
 mod committing;

@@ -8,8 +8,9 @@ use crate::seating::{advance, back};
 use hs_asking::asked;
 use hs_ast::{Isolation, Stmt};
 use hs_base::{NoMemory, SessionNo};
+use hs_claims::ControlKind;
 use hs_entering::settle_definition;
-use hs_instance::Restoring;
+use hs_instance::{Restoring, kind_of};
 use hs_log::Batch;
 use hs_logged::Logbook;
 use hs_plan::{Changes, Definition};
@@ -27,13 +28,17 @@ pub struct SqlStore<C> {
     pub conditions: C,
 }
 
-impl<C: CheckTexts> Store for SqlStore<C> {
+impl<C: CheckTexts + Copy> Store for SqlStore<C> {
     ghost use Rattle.hs_asking.specs.Asking.{IsStatement};
     ghost use Rattle.hs_engine.specs.Store.{Stands};
 
     ghost stands = { λ s w commits seated. Stands (C.wording s.conditions) s.database.instance s.logbook w commits seated };
 
     ghost is_read = { λ statement text. IsStatement statement text };
+
+    fn control(&self) -> ControlKind {
+        kind_of(self.database.instance.control)
+    }
 
     fn level(&self) -> Isolation {
         self.database.instance.level
@@ -117,6 +122,14 @@ impl<C: CheckTexts> Store for SqlStore<C> {
             &mut self.logbook,
             made,
         )
+    }
+
+    fn copy(&self) -> Result<SqlStore<C>, NoMemory> {
+        Ok(SqlStore {
+            database: self.database.copy()?,
+            logbook: self.logbook,
+            conditions: self.conditions,
+        })
     }
 
     ghost world = { λ s w commits seated stands. stands.world.world };

@@ -24,7 +24,7 @@ ghost use Rattle.hs_run.specs.Stop.{NoFaults};
 ghost use Rattle.hs_turns.specs.Histories.{state};
 ghost use Rattle.hs_turns.specs.Laws.{is_item};
 ghost use Rattle.hs_turns.specs.Lines.{printed, replies_among};
-ghost use Rattle.hs_turns.specs.Promises.{AreMade, EachEnded, IsCommitted, IsInOrder, IsSerial};
+ghost use Rattle.hs_turns.specs.Promises.{AreMade, EachEnded, IsCommitted, IsFirst, IsInOrder, IsSerial, IsSnapshot};
 
 use hs_engine::SqlEngine;
 use hs_host::Host;
@@ -36,10 +36,16 @@ use std::alloc::Global;
 /// each commit before it is told, and writes the lines of the transcript, as far as it comes, to the output. The words are
 /// `hsql DATABASE`. The host has no name yet.
 ///
-/// Behind its first line the transcript has the lines of the turns of a machine, whose sessions lock tables (LOCKS) and wait for each
-/// other. Each item of the input has one reply among them. After any number of turns, over a log that a run may begin with: a
-/// transaction at SERIALIZABLE answers as if it ran alone on the commits just before its end, and its commit makes what its statements
-/// make there. Each commit is that of one transaction or a definition's, and leaves a valid database.
+/// Behind its first line the transcript has the lines of the turns of a machine, whose sessions hold claims and wait for each other by
+/// the model of transactions that the database has: LOCKS, MVLOCKS or MVCC. Each item of the input has one reply among them. After any
+/// number of turns, over a log that a run may begin with, a transaction has what the model promises that it ran under. Each commit is
+/// that of one transaction or a definition's, and leaves a valid database.
+///
+/// Under LOCKS, and under MVLOCKS where it may write, a transaction at REPEATABLE READ or SERIALIZABLE answers as if it ran alone on the
+/// commits just before its end, and its commit makes what its statements make there. So such transactions are as if they were run one at
+/// a time, in the order of their commits. A read-only one under MVLOCKS, and one at REPEATABLE READ or SERIALIZABLE under MVCC, reads a
+/// snapshot: it answers as if it ran alone on the database as it was when it began, with its own changes. Such a one under MVCC changes
+/// no row that a commit changed since it began.
 ///
 /// The status says how the run ended and why. Over a host that tells its bytes and is honest: whatever it is, what was
 /// written is a prefix of the transcript over the commits of the log. At `Done` the input was read to its end, all of the
@@ -75,13 +81,15 @@ pub fn run<H: Host>(alloc: Global, words: &Words, host: &mut H) -> Status
     ensures too_long { H.tells → result ≡ Status.InputTooLong → 2 ^ 30 < length (H.unread host.old) }
     ensures before_too_long { H.tells → IsHonest (H.standing host.old) → (opened : Opened) → IsOpened sql_meaning (H.files host.old).log opened → result ≡ Status.InputTooLong → H.written host.new ≡ H.written host.old ++ told_within (2 ^ 30) (ahead sql_meaning (H.files host.old).log opened) (H.unread host.old) }
 
-    // The turns of the machine, and what LOCKS promises after any number of them.
+    // The turns of the machine, and what the models of transactions promise after any number of them.
     ensures turns { (opened : Opened) → told_by (pieces (ahead sql_meaning (H.files host.old).log opened) (items 1 (H.unread host.old))) ≡ printed (lines_over opened (size_at (H.files host.old).log) (items 1 (H.unread host.old))) }
     ensures replied { (opened : Opened) (number : ℕ) → replies_among number (lines_over opened (size_at (H.files host.old).log) (items 1 (H.unread host.old))) ≡ count_by (is_item number) (items 1 (H.unread host.old)) }
     ensures serial { (opened : Opened) → IsOpened sql_meaning (H.files host.old).log opened → (n : ℕ) → EachEnded (history_over opened (size_at (H.files host.old).log) (items 1 (H.unread host.old)) n) (IsSerial (language_over opened (size_at (H.files host.old).log)) opened.database) }
     ensures in_order { (opened : Opened) → IsOpened sql_meaning (H.files host.old).log opened → (n : ℕ) → EachEnded (history_over opened (size_at (H.files host.old).log) (items 1 (H.unread host.old)) n) (IsInOrder (language_over opened (size_at (H.files host.old).log)) opened.database) }
     ensures committed { (opened : Opened) → IsOpened sql_meaning (H.files host.old).log opened → (n : ℕ) → EachEnded (history_over opened (size_at (H.files host.old).log) (items 1 (H.unread host.old)) n) IsCommitted }
     ensures made_by { (opened : Opened) → IsOpened sql_meaning (H.files host.old).log opened → (n : ℕ) → AreMade (history_over opened (size_at (H.files host.old).log) (items 1 (H.unread host.old)) n).commits (history_over opened (size_at (H.files host.old).log) (items 1 (H.unread host.old)) n).ended }
+    ensures snapshot { (opened : Opened) → IsOpened sql_meaning (H.files host.old).log opened → (n : ℕ) → EachEnded (history_over opened (size_at (H.files host.old).log) (items 1 (H.unread host.old)) n) (IsSnapshot (language_over opened (size_at (H.files host.old).log)) opened.database) }
+    ensures first { (opened : Opened) → IsOpened sql_meaning (H.files host.old).log opened → (n : ℕ) → EachEnded (history_over opened (size_at (H.files host.old).log) (items 1 (H.unread host.old)) n) IsFirst }
     ensures valid { (opened : Opened) → IsOpened sql_meaning (H.files host.old).log opened → (n k : ℕ) → is_valid (state opened.database (history_over opened (size_at (H.files host.old).log) (items 1 (H.unread host.old)) n).commits k) ≡ true }
 
     // What is logged.

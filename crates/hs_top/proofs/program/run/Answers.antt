@@ -23,5 +23,11 @@ returns-clause-committed g c = λ opened is n. runs.committed opened (size_at (g
 pub returns-clause-made_by : goal.returns-clause-made_by
 returns-clause-made_by g c = λ opened is n. runs.made_by opened (size_at (g.H.Host.files c.args.host.now).log) (items 1 (g.H.Source.unread c.args.host.now)) (opened_sound sql_meaning (g.H.Host.files c.args.host.now).log opened is) n
 
+pub returns-clause-snapshot : goal.returns-clause-snapshot
+returns-clause-snapshot g c = λ opened is n. runs.snapshot opened (size_at (g.H.Host.files c.args.host.now).log) (items 1 (g.H.Source.unread c.args.host.now)) (opened_sound sql_meaning (g.H.Host.files c.args.host.now).log opened is) n
+
+pub returns-clause-first : goal.returns-clause-first
+returns-clause-first g c = λ opened is n. runs.first opened (size_at (g.H.Host.files c.args.host.now).log) (items 1 (g.H.Source.unread c.args.host.now)) (opened_sound sql_meaning (g.H.Host.files c.args.host.now).log opened is) n
+
 pub returns-clause-valid : goal.returns-clause-valid
 returns-clause-valid g c = λ opened is n k. runs.valid opened (size_at (g.H.Host.files c.args.host.now).log) (items 1 (g.H.Source.unread c.args.host.now)) (opened_sound sql_meaning (g.H.Host.files c.args.host.now).log opened is) n k
