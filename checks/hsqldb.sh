@@ -4,9 +4,9 @@
 #
 # usage: checks/hsqldb.sh [SCRIPTS..]      (default: the files of checks/hsqldb)
 #
-# HSQLDB runs in memory under LOCKS, with a connection and a thread for each session, and gets each statement as a text. Where
-# the two are known to differ the scripts say so, with both answers, and docs/SQL.md says why. So a difference that isn't
-# listed fails, and a listed one that is none. A refusal's kind counts where both have one for it.
+# HSQLDB runs in memory, under LOCKS until a script sets another model, with a connection and a thread for each session, and
+# gets each statement as a text. Where the two are known to differ the scripts say so, with both answers, and docs/SQL.md says
+# why. So a difference that isn't listed fails, and a listed one that is none. A refusal's kind counts where both have one for it.
 #
 # It needs a JDK and Debian's package libhsqldb-java. The jar is looked for in the folder JARS (/usr/share/java if not set).
 # Where one of these isn't there it says so and fails, but by checks/all it is left out.

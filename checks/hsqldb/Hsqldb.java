@@ -20,7 +20,7 @@ import java.util.regex.Matcher;
 import java.util.regex.Pattern;
 
 /**
- * Runs a script through HSQLDB: a new database in memory under LOCKS, and a connection and a thread for each session.
+ * Runs a script through HSQLDB: a new database in memory, under LOCKS at first, and a connection and a thread for each session.
  *
  * <p>Entries come in the program's order. After each of them it is waited until every session has its answer or waits for
  * another one, which HSQLDB's table of sessions tells. Entries of a session that waits are queued. At the end the sessions are
