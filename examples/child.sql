@@ -1,0 +1,20 @@
+-- Under MVCC a new child holds the key of its parent. Who deletes the parent waits, and is then refused by the foreign key; the
+-- other way round the child waits and is refused.
+a: SET DATABASE TRANSACTION CONTROL MVCC;
+a: CREATE TABLE CUSTOMER (ID INTEGER PRIMARY KEY, NAME VARCHAR(20));
+a: CREATE TABLE PURCHASE (NUM INTEGER PRIMARY KEY, CUSTOMER INTEGER,
+    CONSTRAINT BUYER FOREIGN KEY (CUSTOMER) REFERENCES CUSTOMER (ID));
+a: INSERT INTO CUSTOMER VALUES (1,'Ann'),(2,'Bo');
+a: SET AUTOCOMMIT FALSE;
+b: SET AUTOCOMMIT FALSE;
+a: INSERT INTO PURCHASE VALUES (10,1);
+-- A second purchase of Ann, and her new name, are in nobody's way.
+b: INSERT INTO PURCHASE VALUES (11,1);
+c: UPDATE CUSTOMER SET NAME = 'Anna' WHERE ID = 1;
+c: DELETE FROM CUSTOMER WHERE ID = 1;
+a: COMMIT;
+b: COMMIT;
+b: DELETE FROM CUSTOMER WHERE ID = 2;
+a: INSERT INTO PURCHASE VALUES (12,2);
+b: COMMIT;
+a: COMMIT;
