@@ -1,18 +1,19 @@
 -- The rows of a draft after a change, and those that it had before.
-use Rattle.std.proofs.Common.{◌≡◌, ℕ, ◌<◌, suc, Bool, true, false, ◌==◌, ◌&&◌, ◌||◌, cond, if◌then◌else◌, List, [], ◌∷◌, length, get_or, Option, Some, None, is_some, refl, sym, ap, ◌∙◌, arith, subst}
+use Rattle.std.proofs.Common.{◌≡◌, ℕ, ◌<◌, suc, Bool, true, false, ◌==◌, ◌&&◌, ◌||◌, cond, if◌then◌else◌, List, [], ◌∷◌, ◌++◌, length, get_or, Option, Some, None, is_some, refl, sym, ap, ◌∙◌, arith, subst}
 use Rattle.std.proofs.lemmas.Bool.{eqb-true}
 use Rattle.std.specs.BTreeMap.{BTreeMap}
-use Rattle.std.specs.Cmp.{nat_cmp_total, eq_by_cmp_equiv}
+use Rattle.std.specs.Cmp.{nat_cmp_total, eq_by_cmp_equiv, tied_itself}
 use Rattle.std.specs.FinMap.{empty, get, get-empty, same_map, nat_cmp-IsAntisymmetric}
 use Rattle.std.specs.List.{All, list_any}
+use Rattle.std.specs.List.Sorted.{IsStrictlySortedBy}
 use Rattle.std.specs.Map.{lookup, keys_of}
 use Rattle.std.specs.Option.{option_map_or, unwrap_or}
-use Rattle.std.specs.Ordering.{nat_cmp}
+use Rattle.std.specs.Ordering.{nat_cmp, is_eq}
 use Rattle.hs_values.specs.declared.value.Value.{Value}
 use Rattle.hs_index.specs.Table.{Rows}
 use Rattle.hs_changes.specs.Settings.{with_values}
 use Rattle.hs_changes.proofs.Set.{ties_are_equal, get-with_values}
-use Rattle.hs_keyed.proofs.Stored.{remove-none}
+use Rattle.hs_keyed.proofs.Stored.{not_among, remove-none}
 use Rattle.hs_sentences.specs.Asking.{Test, passes_at, any_of, is_one_of}
 use Rattle.hs_draft.specs.Drafted.{Olds, is, rows_at, olds_at, old_in, old_of, with_olds}
 
@@ -53,6 +54,34 @@ rows_none tables table row none t = by (t == table) refl
         let nothing : rows_at tables t ≡ empty = ap (rows_at tables) (eqb-true t table same) ∙ ap (λ o. unwrap_or o empty) none in
         nothing ∙ sym (ap (λ rows. with_values rows row None) nothing ∙ remove-none empty row (get-empty nat_cmp row))
     by false other = refl
+
+-- ---- tables that are copied one after another
+
+-- a table behind others of which none has its number
+behind_others : (front : Tables) (n : ℕ) (here : Rows) → lookup (is n) front ≡ None → (q : ℕ) → lookup (is q) (front ++ (n, here) ∷ []) ≡ cond (is n q) (Some here) (lookup (is q) front)
+behind_others front n here none q = by (is n q) refl
+  where
+    own : (es : Tables) → lookup (is n) es ≡ None → lookup (is n) (es ++ (n, here) ∷ []) ≡ Some here
+    own [] none = ap (λ b. cond b (Some here) None) (ap is_eq (tied_itself nat_cmp_total n))
+    own (e ∷ es) none = at (is n e.0) (own es) none
+      where
+        at : (b : Bool) → (lookup (is n) es ≡ None → lookup (is n) (es ++ (n, here) ∷ []) ≡ Some here) → cond b (Some e.1) (lookup (is n) es) ≡ None → cond b (Some e.1) (lookup (is n) (es ++ (n, here) ∷ [])) ≡ Some here
+        at true more none = absurd (cc)
+        at false more none = more none
+
+    other : is n q ≡ false → (es : Tables) → lookup (is q) (es ++ (n, here) ∷ []) ≡ lookup (is q) es
+    other apart [] = ap (λ b. cond b (Some here) None) ((eq_by_cmp_equiv nat_cmp_total).symm q n ∙ apart)
+    other apart (e ∷ es) = ap (cond (is q e.0) (Some e.1)) (other apart es)
+
+    by : (b : Bool) → is n q ≡ b → lookup (is q) (front ++ (n, here) ∷ []) ≡ cond b (Some here) (lookup (is q) front)
+    by true same = ap (λ k. lookup (is k) (front ++ (n, here) ∷ [])) (eqb-true q n (sym (is-turned n q) ∙ same)) ∙ own front none
+    by false apart = other apart front
+
+pub one_table_more : (made new front rest : Tables) (n : ℕ) (here : Rows) → IsStrictlySortedBy nat_cmp (keys_of (front ++ (n, here) ∷ rest))
+    → ((q : ℕ) → lookup (is q) new ≡ cond (is n q) (Some here) (lookup (is q) made)) → ((q : ℕ) → lookup (is q) made ≡ lookup (is q) front)
+    → (q : ℕ) → lookup (is q) new ≡ lookup (is q) (front ++ (n, here) ∷ [])
+one_table_more made new front rest n here sorted sets so_far q =
+    sets q ∙ ap (cond (is n q) (Some here)) (so_far q) ∙ sym (behind_others front n here (not_among n here rest front sorted) q)
 
 -- ---- what rows were
 

@@ -3,6 +3,7 @@ ghost use Rattle.std.specs.Prelude.{◌≡◌};
 ghost use Rattle.std.specs.FinMap.{empty};
 
 mod changing;
+mod copying;
 mod looking;
 
 use hs_keyed::KeyedRows;

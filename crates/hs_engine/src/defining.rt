@@ -5,7 +5,6 @@ ghost use Rattle.hs_turns.specs.Database.{Database};
 ghost use Rattle.hs_turns.specs.Histories.{Commit};
 ghost use Rattle.hs_instance.specs.Instance.{IsInstance};
 ghost use Rattle.hs_language.specs.Sql.{definition_in};
-ghost use Rattle.hs_plainrows.specs.Ready.{IsReady};
 ghost use Rattle.hs_plan.specs.declared.definition.Definition.{Definition as TheDefinition};
 ghost use Rattle.hs_plan.specs.declared.plan.Plan.TheVariants as plans;
 ghost use Rattle.hs_queue.specs.Entries.{entry_of};
@@ -35,7 +34,6 @@ fn nothing<T: Drop>(alloc: Global, _statement: T) -> Result<Result<Definition, C
 
 // What a bound statement defines, or why it is refused.
 fn judged(instance: &Instance, plan: Plan) -> Result<Result<Definition, Chars>, NoMemory>
-    requires ready { IsReady instance.now.seated.rows.plain }
     requires count { instance.now.count ≤ 2 ^ 48 }
     requires bound { (definition : TheDefinition) → plan ≡ plans.Define definition → IsBound instance.now.catalog definition }
     requires next { (definition : TheDefinition) → IsNext instance.now.catalog definition (instance.now.count + 1) }

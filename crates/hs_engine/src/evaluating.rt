@@ -9,7 +9,6 @@ ghost use Rattle.hs_language.specs.Outcomes.{of_plan};
 ghost use Rattle.hs_language.specs.Reading.{Reading, TellsTables};
 ghost use Rattle.hs_language.specs.Validity.{all_hold};
 ghost use Rattle.hs_outcome.specs.Same.{ListsAscending};
-ghost use Rattle.hs_plainrows.specs.Ready.{IsReady};
 ghost use Rattle.hs_plan.specs.declared.change.Change.{Change as TheChange};
 ghost use Rattle.hs_queue.specs.Entries.{entry_of};
 ghost use Rattle.hs_seams.specs.Calls.{IsEntry};
@@ -29,7 +28,6 @@ use hs_values::Chars;
 
 // What a bound data statement comes to. Its changes are made behind those that are there.
 fn outcome(instance: &mut Instance, plan: &Plan) -> Result<Outcome, NoMemory>
-    requires { IsReady instance.old.seated.rows.plain }
     ensures { (r : Reading) → TellsTables r → ListsAscending r → (db : Database) (seated : List TheChange) → IsInstance db seated instance.old → all_hold (view db seated) ≡ true
         → IfOk result (λ o. (outcome_of o ≡ of_plan r (count_all_inserted seated) (view db seated) plan.now) × IsInstance db (seated ++ o.changes) instance.new) }
 {
@@ -50,7 +48,6 @@ pub(crate) fn evaluated(
     statement: &Stmt,
     read_only: bool,
 ) -> Result<Result<Outcome, Chars>, NoMemory>
-    requires ready { IsReady instance.old.seated.rows.plain }
     requires entry { IsEntry entry.now }
     requires tree { IsStatement statement.now (entry_of entry.now).text }
     ensures { (w : World) (commits : List Commit) (seated : List TheChange) → SpeaksSql w → IsHere instance.old w commits seated → w.run.dialect.is_valid (seen w commits seated) ≡ true

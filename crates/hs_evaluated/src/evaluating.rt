@@ -5,7 +5,6 @@ ghost use Rattle.hs_turns.specs.Database.{Database, view};
 ghost use Rattle.hs_language.specs.Reading.{Reading, TellsTables};
 ghost use Rattle.hs_language.specs.Validity.{all_hold};
 ghost use Rattle.hs_outcome.specs.Same.{ListsAscending};
-ghost use Rattle.hs_plainrows.specs.Ready.{IsReady};
 ghost use Rattle.hs_plan.specs.declared.change.Change.{Change as TheChange};
 ghost use Rattle.hs_references.specs.Referenced.{AreOf};
 ghost use Rattle.hs_seated.specs.Seated.{IsSeated};
@@ -36,7 +35,6 @@ pub fn evaluate(
     seated: &mut Seated,
     plan: &Plan,
 ) -> Result<Outcome, NoMemory>
-    requires { IsReady seated.old.rows.plain }
     ensures { (r : Reading) → TellsTables r → ListsAscending r → AreOf cat.now (keys_in keys.now) → (db : Database) (behind : List TheChange) → IsSeated db.rows behind seated.old → db.things ≡ cat.now → all_hold (view db behind) ≡ true → IfOk result (λ o. IsEvaluated r db behind plan.now o seated.new) }
 {
     let before = seated.len();

@@ -8,9 +8,9 @@ ghost use Rattle.hs_language.specs.Outcomes.{of_plan};
 ghost use Rattle.hs_language.specs.Reading.{Reading, TellsTables};
 ghost use Rattle.hs_outcome.specs.Given.{foot_of, outcome_of};
 ghost use Rattle.hs_outcome.specs.Same.{ListsAscending};
-ghost use Rattle.hs_plainrows.specs.Ready.{tables_of, IsReady};
 ghost use Rattle.hs_plan.specs.declared.change.Change.{Change as TheChange};
 ghost use Rattle.hs_references.specs.Referenced.{AreOf};
+ghost use Rattle.hs_seated.specs.Looked.{looked_at, IsReady};
 ghost use Rattle.hs_seated.specs.Seated.{IsSeated};
 
 use hs_acting::References;
@@ -19,10 +19,9 @@ use hs_cascade::RowsBefore;
 use hs_claims::Footprint;
 use hs_draft::Draft;
 use hs_outcome::{Given, give, touched};
-use hs_plainrows::PlainRows;
 use hs_plan::Plan;
 use hs_schema::Catalog;
-use hs_seated::Seated;
+use hs_seated::{DraftRows, Seated};
 use hs_values::Row;
 use std::alloc::Global;
 
@@ -36,13 +35,11 @@ fn given_over(
     alloc: Global,
     cat: &Catalog,
     keys: &References,
-    rows: &mut PlainRows,
+    rows: &mut DraftRows<'_>,
     plan: &Plan,
 ) -> Result<Given, NoMemory>
     requires { IsReady rows.old }
-    ensures given { AreOf cat.now (keys_in keys.now) → (r : Reading) (inserted : ℕ) (db : Database) → db.things ≡ cat.now → db.rows ≡ tables_of rows.old → IfOk result (λ given. of_plan r inserted db plan.now ≡ outcome_of r inserted db plan.now given) }
-    ensures same { tables_of rows.new ≡ tables_of rows.old }
-    ensures ready { IsReady rows.new }
+    ensures { AreOf cat.now (keys_in keys.now) → (r : Reading) (inserted : ℕ) (db : Database) → db.things ≡ cat.now → db.rows ≡ looked_at rows.old → IfOk result (λ given. of_plan r inserted db plan.now ≡ outcome_of r inserted db plan.now given) }
 {
     let mut steps: Steps<Looks> = Steps::new();
     match give(alloc, cat, keys, rows, plan, &mut steps) {
@@ -59,11 +56,11 @@ pub(crate) fn given(
     seated: &mut Seated,
     plan: &Plan,
 ) -> Result<Given, NoMemory>
-    requires { IsReady seated.old.rows.plain }
-    ensures given { AreOf cat.now (keys_in keys.now) → (r : Reading) (inserted : ℕ) (db : Database) → db.things ≡ cat.now → db.rows ≡ tables_of seated.old.rows.plain → IfOk result (λ given. of_plan r inserted db plan.now ≡ outcome_of r inserted db plan.now given) }
+    ensures given { AreOf cat.now (keys_in keys.now) → (r : Reading) (inserted : ℕ) (db : Database) → db.things ≡ cat.now → db.rows ≡ after seated.old.rows.draft → IfOk result (λ given. of_plan r inserted db plan.now ≡ outcome_of r inserted db plan.now given) }
     ensures seated { (maps : Maps) (behind : List TheChange) → IsSeated maps behind seated.old → IsSeated maps behind seated.new }
 {
-    given_over(alloc, cat, keys, &mut seated.rows.plain, plan)
+    let mut rows = DraftRows::new(&seated.rows.draft);
+    given_over(alloc, cat, keys, &mut rows, plan)
 }
 
 // ---- what it touches

@@ -21,7 +21,6 @@ pub(crate) fn redefined_rows(
 ) -> Result<(), NoMemory>
     requires bound { IsBound cat.old definition.now }
     requires next { IsNext cat.old definition.now number }
-    requires rows { (maps : Maps) × IsSeated maps [] seated.old }
     ensures things { OnOk result (cat.new ≡ after cat.old definition.now number) }
     ensures rows { (maps : Maps) → IsSeated maps [] seated.old → OnOk result (IsSeated (rows_after cat.old definition.now number maps) [] seated.new) }
 {

@@ -101,7 +101,6 @@ impl Instance {
     /// is known of the database.
     pub fn define(&mut self, definition: &Definition) -> Result<(), NoMemory>
         requires count { self.old.count < 2 ^ 48 }
-        requires is { (db : Database) × IsInstance db [] self.old }
         requires bound { IsBound self.old.catalog definition.now }
         requires next { IsNext self.old.catalog definition.now (self.old.count + 1) }
         ensures { (db : Database) → IsInstance db [] self.old → OnOk result (IsInstance (defined definition.now db) [] self.new) }

@@ -1,3 +1,4 @@
 pub mod Halves
 pub mod Indexed
+pub mod Ordered
 pub mod Stored

@@ -89,14 +89,15 @@ pub any-rows_of : (test : Test) (es : Entries) → IsStrictlySortedBy nat_cmp (k
 any-rows_of test es s = ap (list_any (λ e. test e.0 e.1)) (sym (entries-rows_of es s))
 
 -- a number that stands behind others isn't among them
-apart : (n : ℕ) (row : List Value) (rest : Entries) (x : ℕ) (es : Entries) → AllByRecursion (λ y. nat_cmp x y ≡ Less) (keys_of (es ++ (n, row) ∷ rest)) → nat_cmp x n ≡ Less
-apart n row rest x [] h = h.0
-apart n row rest x (e ∷ es) h = apart n row rest x es h.1
+module _ {X : Type 0} (n : ℕ) (x : X) (rest : List (ℕ × X)) where
+  apart : (m : ℕ) (es : List (ℕ × X)) → AllByRecursion (λ y. nat_cmp m y ≡ Less) (keys_of (es ++ (n, x) ∷ rest)) → nat_cmp m n ≡ Less
+  apart m [] h = h.0
+  apart m (e ∷ es) h = apart m es h.1
 
-not_among : (n : ℕ) (row : List Value) (rest : Entries) (es : Entries) → IsStrictlySortedBy nat_cmp (keys_of (es ++ (n, row) ∷ rest)) → at es n ≡ None
-unfolding IsStrictlySortedBy
-not_among n row rest [] s = refl
-not_among n row rest (e ∷ es) s = ap (λ b. cond b (Some e.1) (at es n)) (tied n e.0 ∙ ap is_eq (apart n row rest e.0 es s.0)) ∙ not_among n row rest es s.1
+  pub not_among : (es : List (ℕ × X)) → IsStrictlySortedBy nat_cmp (keys_of (es ++ (n, x) ∷ rest)) → lookup (λ k. is_eq (nat_cmp n k)) es ≡ None
+  unfolding IsStrictlySortedBy
+  not_among [] s = refl
+  not_among (e ∷ es) s = ap (λ b. cond b (Some e.1) (lookup (λ k. is_eq (nat_cmp n k)) es)) (tied n e.0 ∙ ap is_eq (apart e.0 es s.0)) ∙ not_among es s.1
 
 pub new_number : (front : Entries) (n : ℕ) (row : List Value) (rest : Entries) → IsStrictlySortedBy nat_cmp (keys_of (front ++ (n, row) ∷ rest)) → get (rows_of front) n ≡ None
 new_number front n row rest s = get-rows_of front n ∙ not_among n row rest front s

@@ -5,7 +5,10 @@ ghost use Rattle.std.specs.Option.{option_copied};
 ghost use Rattle.hs_sentences.specs.Asking.{any_row};
 ghost use Rattle.hs_sentences.specs.Sentences.{carries};
 ghost use Rattle.hs_keyed.specs.Found.{carries_too, numbers_with};
+ghost use Rattle.hs_rows.specs.Numbers.{IsBehind, next_in};
 
+use crate::behind::row_behind;
+use crate::copying::copied;
 use crate::entries::{put_entry, take_entry};
 use crate::indexes::{KeyIndex, index_over};
 use crate::row_test::{Carries, CarriesToo, RowTest};
@@ -64,6 +67,26 @@ impl KeyedRows {
         ensures { option_copied result ≡ get self.now row.0 }
     {
         self.rows.get(&row.0)
+    }
+
+    /// The row with the least number behind this one, or the first row; None exactly where there is none. Takes no memory.
+    pub fn row_behind(&self, after: Option<RowNo>) -> Option<RowNo>
+        ensures row { result ≡ next_in self.now after }
+        ensures behind { IsBehind after result }
+    {
+        row_behind(&self.rows, after)
+    }
+
+    /// The rows once more, with no index. An `Err` is want of memory.
+    pub fn copy(&self, alloc: Global) -> Result<KeyedRows, NoMemory>
+        ensures { IfOk result (λ copied. copied ≡ self.now) }
+    {
+        let rows = copied(alloc, &self.rows)?;
+        Ok(KeyedRows {
+            rows,
+            indexes: Vec::new(alloc),
+            alloc,
+        })
     }
 
     /// Gives a row these values, and puts it there where it isn't yet. After an `Err`, which is want of memory, the rows

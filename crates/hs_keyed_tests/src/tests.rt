@@ -131,3 +131,21 @@ fn rows_are_put_and_taken(rt: HostRuntime) -> Result<(), Fail> {
     assert!(rt; rows.get(RowNo(7)).is_some() && rows.get(RowNo(5)).is_none());
     Ok(())
 }
+
+#[test]
+fn rows_come_in_the_order_of_their_numbers(rt: HostRuntime) -> Result<(), Fail> {
+    let alloc = rt.alloc();
+    let mut rows = KeyedRows::new(alloc);
+    let mut one = Row::new(alloc);
+    one.push(Value::Int(1))?;
+    for row in [9, 3, 5] {
+        put_copy(&mut rows, row, &one)?;
+    }
+    let copied = rows.copy(alloc)?;
+    rows.take(RowNo(5))?;
+    assert_eq!(rt; rows.row_behind(None), Some(RowNo(3)));
+    assert_eq!(rt; rows.row_behind(Some(RowNo(3))), Some(RowNo(9)));
+    assert_eq!(rt; rows.row_behind(Some(RowNo(9))), None);
+    assert_eq!(rt; copied.row_behind(Some(RowNo(4))), Some(RowNo(5)));
+    Ok(())
+}

@@ -1,22 +1,20 @@
--- The rows of a table in the order of their numbers, and those of all tables where one table has other rows.
-use Rattle.std.proofs.Common.{◌≡◌, ℕ, suc, ◌<◌, ◌≤◌, Bool, true, false, ◌==◌, ◌&&◌, not, cond, ltb, if◌then◌else◌, List, [], ◌∷◌, filter, Option, Some, None, refl, sym, ap, ◌∙◌, arith}
+-- The rows of a table by their numbers, and those of all tables where one table has other rows.
+use Rattle.std.proofs.Common.{◌≡◌, ℕ, Bool, true, false, ◌==◌, cond, if◌then◌else◌, List, [], Option, Some, None, refl, sym, ap, ◌∙◌}
 use Rattle.std.proofs.lemmas.Bool.{eqb-true}
-use Rattle.std.proofs.lemmas.Bool.Decides.{nat_tests}
 use Rattle.std.specs.BTreeMap.{BTreeMap}
-use Rattle.std.specs.BTreeMap.Range.{entries_between}
 use Rattle.std.specs.Cmp.{nat_cmp_total, eq_by_cmp_equiv}
-use Rattle.std.specs.FinMap.{empty, entries, get, get-empty, remove}
+use Rattle.std.specs.FinMap.{empty, get-empty, remove}
 use Rattle.std.specs.List.Sorted.{IsStrictlySortedBy}
-use Rattle.std.specs.Map.{lookup, keys_of}
-use Rattle.std.specs.Ordering.{nat_cmp, is_lt}
-use Rattle.std.specs.declared.ops.Bound.TheVariants.{Excluded, Unbounded}
+use Rattle.std.specs.Map.{lookup}
+use Rattle.std.specs.Ordering.{nat_cmp}
 use Rattle.hs_base.specs.declared.numbers.RowNo.{RowNo}
 use Rattle.hs_values.specs.declared.value.Value.{Value}
 use Rattle.hs_index.specs.Table.{Rows}
 use Rattle.hs_changes.proofs.Set.{ties_are_equal}
 use Rattle.hs_keyed.specs.Kept.{rows_of}
-use Rattle.hs_keyed.proofs.Stored.{Entries, at, get-rows_of, entries-rows_of, remove-none}
-use Rattle.hs_rows.specs.Numbers.{IsBehind, first_number, from_number, next_in, row_in, start}
+use Rattle.hs_keyed.proofs.Ordered.{next-of}
+use Rattle.hs_keyed.proofs.Stored.{Entries, at, get-rows_of, remove-none}
+use Rattle.hs_rows.specs.Numbers.{next_in, row_in}
 use Rattle.hs_plainrows.specs.Held.{Tables, is, rows_among, rows_at}
 
 -- ---- the rows of one table
@@ -29,47 +27,9 @@ pub no-row : (n : ℕ) → None ≡ row_in empty n
 unfolding row_in
 no-row n = sym (get-empty nat_cmp n)
 
-pub next-of : (es : Entries) → IsStrictlySortedBy nat_cmp (keys_of es) → (after : Option RowNo) → first_number (from_number (start after) es) ≡ next_in (rows_of es) after
-unfolding next_in
-next-of es sorted after = ap (λ (l : Entries). first_number (from_number (start after) l)) (sym (entries-rows_of es sorted))
-
 pub no-next : (after : Option RowNo) → None ≡ next_in empty after
 unfolding IsStrictlySortedBy
 no-next after = next-of [] tt after
-
--- from 0 on it is all of them
-pub first-of : (es : Entries) → first_number es ≡ first_number (from_number 0 es)
-first-of [] = refl
-first-of (e ∷ es) = grind (arith, nat_tests)
-
--- those behind a number, as a range of a map has them
-pub first-behind : (n : ℕ) (es : Entries) → first_number (entries_between nat_cmp (Excluded n) Unbounded es) ≡ first_number (from_number (suc n) es)
-first-behind n [] = refl
-first-behind n (e ∷ es) = by (ltb n e.0) refl (first-behind n es)
-  where
-    by : (b : Bool) → ltb n e.0 ≡ b → first_number (entries_between nat_cmp (Excluded n) Unbounded es) ≡ first_number (from_number (suc n) es)
-        → first_number (entries_between nat_cmp (Excluded n) Unbounded (e ∷ es)) ≡ first_number (from_number (suc n) (e ∷ es))
-    by true h later = grind (arith, nat_tests, h)
-    by false h later = grind (arith, nat_tests, h, later)
-
--- the first number from one on is at it or behind it
-first_from : (n : ℕ) (r : RowNo) (es : Entries) → first_number (from_number n es) ≡ Some r → n ≤ r.0
-first_from n r [] h = cc
-first_from n r (e ∷ es) h = by (ltb e.0 n) refl (first_from n r es)
-  where
-    by : (b : Bool) → ltb e.0 n ≡ b → (first_number (from_number n es) ≡ Some r → n ≤ r.0) → n ≤ r.0
-    by true low later = later (sym (ap (λ b. first_number (cond b (from_number n es) (e ∷ es))) low) ∙ h)
-    by false high later =
-        let same : e.0 ≡ r.0 = (let it = sym (ap (λ b. first_number (cond b (from_number n es) (e ∷ es))) high) ∙ h in cc) in
-        grind (arith, nat_tests)
-
-behind_if : (after : Option RowNo) (es : Entries) (found : Option RowNo) → first_number (from_number (start after) es) ≡ found → IsBehind after found
-behind_if after es None h = tt
-behind_if after es (Some r) h = first_from (start after) r es h
-
-pub next_is_behind : (rows : Rows) (after : Option RowNo) → IsBehind after (next_in rows after)
-unfolding next_in
-next_is_behind rows after = behind_if after (entries rows) _ refl
 
 -- ---- the rows of all tables
 

@@ -6,13 +6,12 @@ ghost use Rattle.hs_changes.specs.Settings.{with_values};
 ghost use Rattle.hs_keyed.specs.Kept.{rows_of};
 ghost use Rattle.hs_rows.specs.Numbers.{next_in, row_in};
 ghost use Rattle.hs_plainrows.specs.Held.{rows_at};
-ghost use Rattle.hs_plainrows.specs.Tables.{IsNextTable};
 
 use hs_base::{NoMemory, RowNo, TableNo};
+use hs_keyed::row_behind;
 use hs_values::Row;
 use std::alloc::Global;
 use std::collections::BTreeMap;
-use std::ops::Bound;
 
 /// The row of a table with this number.
 pub(crate) fn row_at(
@@ -43,67 +42,7 @@ pub(crate) fn next_at(
     ensures { result ≡ next_in (rows_at tables.now.entries table.0) after }
 {
     match tables.get(&table.0) {
-        Some(rows) => next_of(rows, after),
-        None => None,
-    }
-}
-
-fn next_of(rows: &BTreeMap<u64, Row>, after: Option<RowNo>) -> Option<RowNo>
-    ensures { result ≡ next_in (rows_of rows.now.entries) after }
-{
-    match after {
-        None => first(rows),
-        Some(row) => first_behind(rows, row),
-    }
-}
-
-fn first(rows: &BTreeMap<u64, Row>) -> Option<RowNo>
-    ensures { result ≡ next_in (rows_of rows.now.entries) None }
-{
-    match rows.iter().next() {
-        Some((number, _)) => Some(RowNo(*number)),
-        None => None,
-    }
-}
-
-fn first_behind(rows: &BTreeMap<u64, Row>, row: RowNo) -> Option<RowNo>
-    ensures { result ≡ next_in (rows_of rows.now.entries) (Some row) }
-{
-    let behind = (Bound::Excluded(row.0), Bound::Unbounded);
-    match rows.range(behind).next() {
-        Some((number, _)) => Some(RowNo(*number)),
-        None => None,
-    }
-}
-
-/// The table with the least number behind this one, or the first table.
-pub(crate) fn next_table(
-    tables: &BTreeMap<u64, BTreeMap<u64, Row>>,
-    after: Option<TableNo>,
-) -> Option<TableNo>
-    ensures { IsNextTable (rows_at tables.now.entries) after result }
-{
-    match after {
-        None => first_table(tables),
-        Some(table) => first_table_behind(tables, table),
-    }
-}
-
-fn first_table(tables: &BTreeMap<u64, BTreeMap<u64, Row>>) -> Option<TableNo>
-    ensures { IsNextTable (rows_at tables.now.entries) None result }
-{
-    match tables.iter().next() {
-        Some((number, _)) => Some(TableNo(*number)),
-        None => None,
-    }
-}
-
-fn first_table_behind(tables: &BTreeMap<u64, BTreeMap<u64, Row>>, table: TableNo) -> Option<TableNo>
-    ensures { IsNextTable (rows_at tables.now.entries) (Some table) result }
-{
-    let behind = (Bound::Excluded(table.0), Bound::Unbounded);
-    match tables.range(behind).next() {
-        Some((number, _)) => Some(TableNo(*number)),
+        Some(rows) => row_behind(rows, after),
         None => None,
     }
 }

@@ -2,11 +2,9 @@
 ghost use Rattle.std.specs.Prelude.{◌≡◌, ℕ, None, Some, OnOk, OnErr};
 ghost use Rattle.std.specs.FinMap.{empty};
 ghost use Rattle.hs_changes.specs.Settings.{set_row};
-ghost use Rattle.hs_rows.specs.Numbers.{IsBehind, next_in};
 ghost use Rattle.hs_plainrows.specs.Ready.{tables_of, IsReady};
-ghost use Rattle.hs_plainrows.specs.Tables.{IsNextTable};
 
-use crate::held::{next_at, next_table, put_at, remove_at, row_at};
+use crate::held::{next_at, put_at, remove_at, row_at};
 use hs_base::{NoMemory, RowNo, TableNo};
 use hs_expression::RowRef;
 use hs_rel::EvalStop;
@@ -56,22 +54,6 @@ impl PlainRows {
     {
         self.brought = None;
         remove_at(&mut self.tables, table, row);
-    }
-
-    /// The row of a table with the least number behind this one, or the first row.
-    pub fn row_behind(&self, table: TableNo, after: Option<RowNo>) -> Option<RowNo>
-        ensures row { result ≡ next_in (tables_of self.now table.0) after }
-        ensures behind { IsBehind after result }
-    {
-        next_at(&self.tables, table, after)
-    }
-
-    /// The table with the least number behind this one that had a row once, or the first such table. No table that is passed
-    /// over has rows.
-    pub fn next_table(&self, after: Option<TableNo>) -> Option<TableNo>
-        ensures { IsNextTable (tables_of self.now) after result }
-    {
-        next_table(&self.tables, after)
     }
 }
 

@@ -62,17 +62,6 @@ fn rows_come_in_the_order_of_their_numbers(rt: HostRuntime) -> Result<(), Fail> 
 }
 
 #[test]
-fn tables_come_in_the_order_of_their_numbers(rt: HostRuntime) -> Result<(), Fail> {
-    let rows = some_rows(rt.alloc())?;
-    assert_eq!(rt; rows.next_table(None), Some(TableNo(1)));
-    assert_eq!(rt; rows.next_table(Some(TableNo(1))), Some(TableNo(2)));
-    assert_eq!(rt; rows.next_table(Some(TableNo(2))), None);
-    assert_eq!(rt; rows.row_behind(TableNo(1), Some(RowNo(4))), Some(RowNo(5)));
-    assert_eq!(rt; rows.row_behind(TableNo(3), None), None);
-    Ok(())
-}
-
-#[test]
 fn a_row_is_lent_as_it_was_put(rt: HostRuntime) -> Result<(), Fail> {
     let alloc = rt.alloc();
     let mut rows = some_rows(alloc)?;

@@ -17,7 +17,7 @@ use Rattle.hs_schema.specs.declared.thing.Thing.{Thing}
 use Rattle.hs_values.specs.declared.value.Value.{Value}
 use Rattle.hs_redefining.specs.Longer.{AreLonger, AreWithin, longer}
 use Rattle.hs_redefining.specs.Tables.{is_in}
-use Rattle.hs_seated.proofs.Mixed.{same_rows}
+use Rattle.hs_redefining.proofs.ByNumber.{same_rows}
 use Rattle.hs_redefining.proofs.Mixed.{longer_rows}
 use Rattle.hs_redefining.proofs.TablesOf.{AreIn, in_more}
 

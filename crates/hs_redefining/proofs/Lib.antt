@@ -1,3 +1,4 @@
+pub mod ByNumber
 pub mod Copied
 pub mod Effects
 pub mod First

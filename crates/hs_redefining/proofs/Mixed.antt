@@ -11,7 +11,7 @@ use Rattle.hs_changes.specs.Settings.{Maps, set_row, with_values}
 use Rattle.hs_turns.specs.Definitions.{lengthened, with_rows}
 use Rattle.hs_turns.proofs.Lengthened.{get-lengthened}
 use Rattle.hs_rows.specs.Numbers.{next_in, start}
-use Rattle.hs_seated.proofs.Mixed.{Agree, AreMixed, all_mixed, last_tells, next_tells, one_above}
+use Rattle.hs_redefining.proofs.ByNumber.{Agree, AreMixed, all_mixed, last_tells, next_tells, one_above}
 use Rattle.hs_redefining.specs.Longer.{AreLonger, AreWithin, longer}
 
 -- a row from the number on is as it was

@@ -17,7 +17,7 @@ use Rattle.hs_redefining.specs.Effects.{told_by}
 use Rattle.hs_redefining.specs.Tables.{has_thing, is_of}
 use Rattle.hs_redefining.specs.declared.effect.Effect.{Effect}
 use Rattle.hs_redefining.specs.declared.effect.Effect.TheVariants as effect
-use Rattle.hs_seated.proofs.Mixed.{last_tells}
+use Rattle.hs_redefining.proofs.ByNumber.{last_tells}
 
 -- a table without a first row has none
 pub no_rows : (rows : Rows) → None ≡ next_in rows None → rows ≡ empty

@@ -6,7 +6,6 @@ ghost use Rattle.hs_changes.specs.Settings.{Maps, set_row};
 ghost use Rattle.hs_turns.specs.Definitions.{with_rows};
 ghost use Rattle.hs_draft.specs.Drafted.{after};
 ghost use Rattle.hs_index.specs.Table.{Rows as TheRows};
-ghost use Rattle.hs_plainrows.specs.Ready.{IsReady};
 ghost use Rattle.hs_seated.specs.Rows.{AreRows};
 ghost use Rattle.hs_redefining.specs.Effects.{rows_by};
 ghost use Rattle.hs_redefining.specs.Longer.{AreLonger, AreWithin, longer};
@@ -16,9 +15,8 @@ use crate::longer::longer_row;
 use crate::tables::tables_of;
 use hs_base::{NoMemory, RowNo, TableNo};
 use hs_draft::Draft;
-use hs_rows::Rows;
 use hs_schema::Thing;
-use hs_seated::BothRows;
+use hs_seated::SeatedRows;
 use hs_values::{Row, Value};
 use std::alloc::Global;
 use std::slice::from_ref;
@@ -49,16 +47,15 @@ fn copy_row(
 
 // Copies the rows of a table, each with more values behind its own.
 fn copy_table(
-    from: &BothRows,
+    from: &SeatedRows,
     table: TableNo,
     more: &[Value],
     into: &mut Draft,
 ) -> Result<(), NoMemory>
-    requires { IsReady from.now.plain }
     ensures { (maps : Maps) (grown : TheRows) → AreRows maps from.now → AreLonger more.now (maps table.0) grown → AreWithin (after into.old table.0) grown → OnOk result ((t : ℕ) → after into.new t ≡ with_rows table.0 grown (after into.old) t) }
 {
     let mut last = None;
-    while let Some(row) = from.plain.next_row(table, last) {
+    while let Some(row) = from.draft.row_behind(table, last) {
         copy_row(&from.draft, table, row, more, into)?;
         last = Some(row);
     }
@@ -67,12 +64,11 @@ fn copy_table(
 
 // Copies the rows of a table as a definition leaves them.
 fn copy_by(
-    from: &BothRows,
+    from: &SeatedRows,
     table: TableNo,
     effect: &Effect,
     into: &mut Draft,
 ) -> Result<(), NoMemory>
-    requires { IsReady from.now.plain }
     ensures { (maps : Maps) → AreRows maps from.now → AreWithin (after into.old table.0) (rows_by effect.now maps table.0) → OnOk result ((t : ℕ) → after into.new t ≡ with_rows table.0 (rows_by effect.now maps table.0) (after into.old) t) }
 {
     match effect {
@@ -97,10 +93,9 @@ fn copy_by(
 pub(crate) fn copied(
     alloc: Global,
     things: &[Thing],
-    from: &BothRows,
+    from: &SeatedRows,
     effect: &Effect,
 ) -> Result<Draft, NoMemory>
-    requires { IsReady from.now.plain }
     ensures { (maps : Maps) → AreRows maps from.now → IfOk result (λ draft. All (λ t. after draft t.table.0 ≡ rows_by effect.now maps t.table.0) things.now) }
 {
     let tables = tables_of(alloc, things)?;

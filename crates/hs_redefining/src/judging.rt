@@ -3,7 +3,6 @@ ghost use Rattle.std.specs.Prelude.{◌≡◌, ◌+◌, ◌^◌, ◌≤◌, Err,
 ghost use Rattle.hs_turns.specs.Database.{Database};
 ghost use Rattle.hs_language.specs.Definitions as language;
 ghost use Rattle.hs_language.specs.Words as words;
-ghost use Rattle.hs_plainrows.specs.Ready.{IsReady};
 ghost use Rattle.hs_schema.specs.Catalogue.{after, IsBound, IsNext};
 ghost use Rattle.hs_schema.specs.Whole.{IsWhole};
 ghost use Rattle.hs_seated.specs.Rows.{AreRows};
@@ -17,7 +16,7 @@ use crate::words::{long_row_words, violation_words};
 use hs_base::NoMemory;
 use hs_plan::Definition;
 use hs_schema::Catalog;
-use hs_seated::BothRows;
+use hs_seated::SeatedRows;
 use hs_sentences::Violation;
 use hs_values::{Chars, Name};
 use std::alloc::Global;
@@ -59,11 +58,10 @@ fn why(alloc: Global, violation: &Option<Violation>, long: bool) -> Result<Optio
 // Why rows stand against a definition, None where they don't.
 fn refusal(
     cat: &Catalog,
-    rows: &BothRows,
+    rows: &SeatedRows,
     definition: &Definition,
     number: u64,
 ) -> Result<Option<Chars>, NoMemory>
-    requires ready { IsReady rows.now.plain }
     requires bound { IsBound cat.now definition.now }
     requires next { IsNext cat.now definition.now number }
     ensures { (db : Database) → db.things ≡ cat.now → IsWhole db.things → AreRows db.rows rows.now → db.count + 1 ≡ number → IfOk result (λ why. why ≡ why_rows db definition.now) }
@@ -88,11 +86,10 @@ fn answer(definition: Definition, why: Option<Chars>) -> Result<Definition, Char
 // What a definition defines against which no foreign key stands.
 fn judge_rows(
     cat: &Catalog,
-    rows: &BothRows,
+    rows: &SeatedRows,
     number: u64,
     definition: Definition,
 ) -> Result<Result<Definition, Chars>, NoMemory>
-    requires ready { IsReady rows.now.plain }
     requires bound { IsBound cat.now definition }
     requires next { IsNext cat.now definition number }
     ensures { (db : Database) → db.things ≡ cat.now → IsWhole db.things → AreRows db.rows rows.now → db.count + 1 ≡ number → IfOk result (λ told. told ≡ answer_by definition (why_rows db definition)) }
@@ -115,11 +112,10 @@ fn referenced(alloc: Global, name: Name) -> Result<Result<Definition, Chars>, No
 /// An `Err` is want of memory.
 pub fn judge(
     cat: &Catalog,
-    rows: &BothRows,
+    rows: &SeatedRows,
     count: u64,
     definition: Definition,
 ) -> Result<Result<Definition, Chars>, NoMemory>
-    requires ready { IsReady rows.now.plain }
     requires count { count ≤ 2 ^ 48 }
     requires bound { IsBound cat.now definition }
     requires next { IsNext cat.now definition (count + 1) }

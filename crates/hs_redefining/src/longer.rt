@@ -5,7 +5,6 @@ ghost use Rattle.std.specs.List.{list_any};
 ghost use Rattle.std.specs.Option.{option_map_or};
 ghost use Rattle.hs_changes.specs.Settings.{Maps};
 ghost use Rattle.hs_draft.specs.Drafted.{after};
-ghost use Rattle.hs_plainrows.specs.Ready.{IsReady};
 ghost use Rattle.hs_rowlimit.specs.Long as limit;
 ghost use Rattle.hs_seated.specs.Rows.{AreRows};
 ghost use Rattle.hs_redefining.specs.Effects.{are_long};
@@ -16,9 +15,8 @@ use hs_base::{NoMemory, RowNo, TableNo};
 use hs_draft::Draft;
 use hs_plan::Change;
 use hs_rowlimit::has_long_row;
-use hs_rows::Rows;
 use hs_schema::Catalog;
-use hs_seated::BothRows;
+use hs_seated::SeatedRows;
 use hs_values::{Row, Value};
 use std::slice::from_ref;
 
@@ -73,12 +71,16 @@ fn becomes_long(
 }
 
 // Whether a row of a table is too long once it has one value more.
-fn any_long(cat: &Catalog, rows: &BothRows, table: TableNo, value: &Value) -> Result<bool, NoMemory>
-    requires { IsReady rows.now.plain }
+fn any_long(
+    cat: &Catalog,
+    rows: &SeatedRows,
+    table: TableNo,
+    value: &Value,
+) -> Result<bool, NoMemory>
     ensures { (maps : Maps) → AreRows maps rows.now → IfOk result (λ is. is ≡ has_longer (limit.is_long cat.now table) value.now (maps table.0)) }
 {
     let mut last = None;
-    while let Some(row) = rows.plain.next_row(table, last) {
+    while let Some(row) = rows.draft.row_behind(table, last) {
         if becomes_long(cat, &rows.draft, table, row, value)? {
             return Ok(true);
         }
@@ -89,8 +91,11 @@ fn any_long(cat: &Catalog, rows: &BothRows, table: TableNo, value: &Value) -> Re
 
 /// Whether a row that gets a value is too long then. `cat` is the catalogue behind the definition. An `Err` is want
 /// of memory.
-pub(crate) fn makes_long(cat: &Catalog, rows: &BothRows, effect: &Effect) -> Result<bool, NoMemory>
-    requires { IsReady rows.now.plain }
+pub(crate) fn makes_long(
+    cat: &Catalog,
+    rows: &SeatedRows,
+    effect: &Effect,
+) -> Result<bool, NoMemory>
     ensures { (maps : Maps) → AreRows maps rows.now → IfOk result (λ is. is ≡ are_long effect.now cat.now maps) }
 {
     match effect {

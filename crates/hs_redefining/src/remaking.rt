@@ -12,19 +12,17 @@ use crate::effect::{Effect, effect_of};
 use crate::longer::longer_row;
 use hs_base::{NoMemory, RowNo, TableNo};
 use hs_plan::Definition;
-use hs_rows::Rows;
 use hs_schema::Catalog;
-use hs_seated::{BothRows, Seated};
+use hs_seated::{Seated, SeatedRows};
 use hs_values::Value;
 use std::slice::from_ref;
 
 // Takes all rows of a table out.
-fn clear(rows: &mut BothRows, table: TableNo) -> Result<(), NoMemory>
-    requires { (maps : Maps) × AreRows maps rows.old }
+fn clear(rows: &mut SeatedRows, table: TableNo) -> Result<(), NoMemory>
     ensures { (maps : Maps) → AreRows maps rows.old → OnOk result (AreRows (with_rows table.0 empty maps) rows.new) }
 {
     let mut last = None;
-    while let Some(row) = rows.plain.next_row(table, last) {
+    while let Some(row) = rows.draft.row_behind(table, last) {
         rows.set(table, row, None)?;
         last = Some(row);
     }
@@ -33,7 +31,7 @@ fn clear(rows: &mut BothRows, table: TableNo) -> Result<(), NoMemory>
 
 // Puts a value behind those of a row.
 fn lengthen_row(
-    rows: &mut BothRows,
+    rows: &mut SeatedRows,
     table: TableNo,
     row: RowNo,
     value: &Value,
@@ -45,20 +43,18 @@ fn lengthen_row(
 }
 
 // Puts a value behind those of each row of a table.
-fn lengthen(rows: &mut BothRows, table: TableNo, value: &Value) -> Result<(), NoMemory>
-    requires { (maps : Maps) × AreRows maps rows.old }
+fn lengthen(rows: &mut SeatedRows, table: TableNo, value: &Value) -> Result<(), NoMemory>
     ensures { (maps : Maps) → AreRows maps rows.old → OnOk result (AreRows (with_rows table.0 (lengthened value.now (maps table.0)) maps) rows.new) }
 {
     let mut last = None;
-    while let Some(row) = rows.plain.next_row(table, last) {
+    while let Some(row) = rows.draft.row_behind(table, last) {
         lengthen_row(rows, table, row, value)?;
         last = Some(row);
     }
     Ok(())
 }
 
-fn remake(rows: &mut BothRows, effect: &Effect) -> Result<(), NoMemory>
-    requires { (maps : Maps) × AreRows maps rows.old }
+fn remake(rows: &mut SeatedRows, effect: &Effect) -> Result<(), NoMemory>
     ensures { (maps : Maps) → AreRows maps rows.old → OnOk result (AreRows (rows_by effect.now maps) rows.new) }
 {
     match effect {
@@ -71,11 +67,10 @@ fn remake(rows: &mut BothRows, effect: &Effect) -> Result<(), NoMemory>
 // The same, and the rows count as those before the changes to come.
 fn remake_all(
     cat: &Catalog,
-    rows: &mut BothRows,
+    rows: &mut SeatedRows,
     definition: &Definition,
     number: u64,
 ) -> Result<(), NoMemory>
-    requires { (maps : Maps) × AreRows maps rows.old }
     ensures { (maps : Maps) → AreRows maps rows.old → OnOk result (AreRows (rows_after cat.now definition.now number maps) rows.new) }
 {
     let effect = effect_of(cat, definition, number)?;
@@ -94,7 +89,6 @@ pub fn redefine(
     definition: &Definition,
     number: u64,
 ) -> Result<(), NoMemory>
-    requires { (maps : Maps) × IsSeated maps [] seated.old }
     ensures { (maps : Maps) → IsSeated maps [] seated.old → OnOk result (IsSeated (rows_after cat.now definition.now number maps) [] seated.new) }
 {
     remake_all(cat, &mut seated.rows, definition, number)

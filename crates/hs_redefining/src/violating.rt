@@ -5,7 +5,6 @@ ghost use Rattle.std.specs.List.{All};
 ghost use Rattle.hs_changes.specs.Settings.{Maps};
 ghost use Rattle.hs_draft.specs.Drafted.{after};
 ghost use Rattle.hs_language.specs.Validity.{lets_pass};
-ghost use Rattle.hs_plainrows.specs.Ready.{IsReady};
 ghost use Rattle.hs_seated.specs.Rows.{AreRows};
 ghost use Rattle.hs_sentences.specs.Violations as spec;
 ghost use Rattle.hs_redefining.specs.Effects.{rows_by, told_by};
@@ -18,20 +17,18 @@ use crate::tables::has_thing;
 use hs_base::{NoMemory, TableNo};
 use hs_checks::Conditions;
 use hs_draft::{Draft, whole_violated};
-use hs_rows::Rows;
 use hs_schema::{Catalog, Part, Thing};
-use hs_seated::BothRows;
+use hs_seated::SeatedRows;
 use hs_sentences::Violation;
 use hs_values::Name;
 
 // ---- over all rows
 
 // Whether a table has no rows.
-fn has_none(rows: &BothRows, table: TableNo) -> bool
-    requires { IsReady rows.now.plain }
+fn has_none(rows: &SeatedRows, table: TableNo) -> bool
     ensures { result ≡ true → (maps : Maps) → AreRows maps rows.now → maps table.0 ≡ empty }
 {
-    match rows.plain.next_row(table, None) {
+    match rows.draft.row_behind(table, None) {
         Some(_) => false,
         None => true,
     }
@@ -39,8 +36,7 @@ fn has_none(rows: &BothRows, table: TableNo) -> bool
 
 // Whether the rows of a table can stay where they are, though it is to have none: there are none, or no thing tells
 // of it.
-fn may_stay(things: &[Thing], rows: &BothRows, table: TableNo) -> bool
-    requires { IsReady rows.now.plain }
+fn may_stay(things: &[Thing], rows: &SeatedRows, table: TableNo) -> bool
     ensures { result ≡ true → (maps : Maps) → AreRows maps rows.now → All (λ t. maps t.table.0 ≡ rows_by (Effect.Clears table) maps t.table.0) things.now }
 {
     if has_thing(things, table) {
@@ -50,8 +46,7 @@ fn may_stay(things: &[Thing], rows: &BothRows, table: TableNo) -> bool
 }
 
 // Whether the rows as they are tell what they tell behind a definition.
-fn are_told(things: &[Thing], rows: &BothRows, effect: &Effect) -> bool
-    requires { IsReady rows.now.plain }
+fn are_told(things: &[Thing], rows: &SeatedRows, effect: &Effect) -> bool
     ensures { result ≡ true → (maps : Maps) → AreRows maps rows.now → All (λ t. maps t.table.0 ≡ rows_by effect.now maps t.table.0) things.now }
 {
     match effect {
@@ -72,10 +67,9 @@ fn first_in(cat: &Catalog, draft: &Draft) -> Result<Option<Violation>, NoMemory>
 // The first that copies of the rows violate, with indexes over all keys.
 fn first_copied(
     cat: &Catalog,
-    rows: &BothRows,
+    rows: &SeatedRows,
     effect: &Effect,
 ) -> Result<Option<Violation>, NoMemory>
-    requires { IsReady rows.now.plain }
     ensures { (maps : Maps) → AreRows maps rows.now → IfOk result (λ first. first ≡ spec.first_violated lets_pass cat.now (λ t. []) (rows_by effect.now maps)) }
 {
     let mut draft = copied(cat.alloc(), cat.things(), rows, effect)?;
@@ -87,11 +81,10 @@ fn first_copied(
 // indexes.
 fn first_of(
     cat: &Catalog,
-    rows: &BothRows,
+    rows: &SeatedRows,
     effect: &Effect,
     copies: bool,
 ) -> Result<Option<Violation>, NoMemory>
-    requires { IsReady rows.now.plain }
     ensures { (maps : Maps) → AreRows maps rows.now → IfOk result (λ first. first ≡ spec.first_violated lets_pass cat.now (λ t. []) (rows_by effect.now maps)) }
 {
     if copies {
@@ -158,11 +151,10 @@ fn told(things: &[Thing], effect: &Effect, violation: Violation) -> Violation
 /// with indexes over all keys, for keys that the rows have no index for. An `Err` is want of memory.
 pub(crate) fn first_violated(
     cat: &Catalog,
-    rows: &BothRows,
+    rows: &SeatedRows,
     effect: &Effect,
     copies: bool,
 ) -> Result<Option<Violation>, NoMemory>
-    requires { IsReady rows.now.plain }
     ensures { (maps : Maps) → AreRows maps rows.now → IfOk result (λ first. first ≡ told_by effect.now cat.now (spec.first_violated lets_pass cat.now (λ t. []) (rows_by effect.now maps))) }
 {
     let first = first_of(cat, rows, effect, copies)?;

@@ -13,7 +13,7 @@ use Rattle.hs_turns.specs.Database.{is_definition}
 use Rattle.hs_draft.specs.Drafted.{after, touched}
 use Rattle.hs_plan.specs.declared.change.Change.{Change}
 use Rattle.hs_sentences.specs.Asking.{is_one_of}
-use Rattle.hs_seated.specs.declared.both_rows.BothRows.{BothRows}
+use Rattle.hs_seated.specs.declared.seated_rows.SeatedRows.{SeatedRows}
 use Rattle.hs_seated.specs.declared.seated.Seated.{Seated}
 use Rattle.hs_seated.specs.declared.step.Step.{Step}
 use Rattle.hs_seated.specs.Listed.{AreOver}
@@ -78,10 +78,10 @@ touches_one c old new makes = record {
       ∙ ap (λ (l : List Setting). is_set table row (l ++ []) || is_one_of (touched old.rows.draft table) row) (sym makes.sets);
 }
 
-pub touches_none : (inserted : ℕ) (rows : BothRows) → Touches inserted [] rows rows
+pub touches_none : (inserted : ℕ) (rows : SeatedRows) → Touches inserted [] rows rows
 touches_none inserted rows = record { before = λ table. refl; touched = λ table row. refl }
 
-pub touches_on : (inserted : ℕ) (xs : List Change) (c : Change) (a b d : BothRows) (n : ℕ) → n ≡ inserted + count_all_inserted xs
+pub touches_on : (inserted : ℕ) (xs : List Change) (c : Change) (a b d : SeatedRows) (n : ℕ) → n ≡ inserted + count_all_inserted xs
     → Touches inserted xs a b → Touches n (c ∷ []) b d → Touches inserted (xs ++ c ∷ []) a d
 touches_on inserted xs c a b d n is first next = record {
   before = λ table. next.before table ∙ first.before table;

@@ -7,7 +7,7 @@ use Rattle.hs_turns.specs.Database.{is_definition}
 use Rattle.hs_draft.specs.Drafted.{before, touched}
 use Rattle.hs_plan.specs.declared.change.Change.{Change}
 use Rattle.hs_sentences.specs.Asking.{is_one_of}
-use Rattle.hs_seated.specs.declared.both_rows.BothRows.{BothRows}
+use Rattle.hs_seated.specs.declared.seated_rows.SeatedRows.{SeatedRows}
 use Rattle.hs_seated.specs.declared.seated.Seated.{Seated}
 use Rattle.hs_seated.specs.declared.step.Step.{Step}
 use Rattle.hs_seated.specs.Listed.{AreOver}
@@ -36,6 +36,6 @@ abbrev pub inserted_in : Seated → ℕ
 inserted_in s = s.inserted
 
 -- changes were made behind so many inserts: the rows before them are known still, and the changed rows are touched
-pub record Touches (inserted : ℕ) (changes : List Change) (old new : BothRows) : Type 0 where
+pub record Touches (inserted : ℕ) (changes : List Change) (old new : SeatedRows) : Type 0 where
   pub before : (table : ℕ) → before new.draft table ≡ before old.draft table
   pub touched : (table row : ℕ) → is_one_of (touched new.draft table) row ≡ (is_set table row (settings_of inserted changes) || is_one_of (touched old.draft table) row)

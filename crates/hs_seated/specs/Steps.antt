@@ -7,13 +7,13 @@ use Rattle.hs_turns.specs.Database.{is_definition}
 use Rattle.hs_draft.specs.Drafted.{after, before, touched}
 use Rattle.hs_plan.specs.declared.change.Change.{Change}
 use Rattle.hs_sentences.specs.Asking.{is_one_of}
-use Rattle.hs_seated.specs.declared.both_rows.BothRows.{BothRows}
+use Rattle.hs_seated.specs.declared.seated_rows.SeatedRows.{SeatedRows}
 use Rattle.hs_seated.specs.declared.seated.Seated.{Seated}
 use Rattle.hs_seated.specs.declared.step.Step.{Step}
 use Rattle.hs_seated.specs.Rows.{AreRows}
 
 -- a row was set behind so many inserts, and what it was is kept
-pub record IsSet (s : Setting) (inserted : ℕ) (old new : BothRows) (steps news : List Step) : Type 0 where
+pub record IsSet (s : Setting) (inserted : ℕ) (old new : SeatedRows) (steps news : List Step) : Type 0 where
   pub rows : (maps : Maps) → AreRows maps old → AreRows (set_row maps s) new
   pub before : (table : ℕ) → before new.draft table ≡ before old.draft table
   pub touched : (table row : ℕ) → is_one_of (touched new.draft table) row ≡ ((table == s.table && row == s.row) || is_one_of (touched old.draft table) row)

@@ -2,13 +2,14 @@
 //! of them, or committed with the numbers that their rows get.
 #![tactic(auto)]
 
-mod both_rows;
-mod copying;
+mod draft_rows;
 mod making;
 mod numbering;
 mod seated;
+mod seated_rows;
 mod step;
 
-pub use both_rows::BothRows;
+pub use draft_rows::DraftRows;
 pub use numbering::numbered;
 pub use seated::Seated;
+pub use seated_rows::SeatedRows;

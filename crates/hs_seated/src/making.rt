@@ -4,12 +4,12 @@ ghost use Rattle.std.specs.List.{list_any};
 ghost use Rattle.hs_turns.specs.Database.{Database, apply, is_definition, make};
 ghost use Rattle.hs_seated.specs.Rows.{AreRows};
 
-use crate::both_rows::BothRows;
+use crate::seated_rows::SeatedRows;
 use hs_base::{NoMemory, RowNo};
 use hs_plan::Change;
 
 // Makes a change with this number.
-fn make_one(rows: &mut BothRows, number: u64, change: &Change) -> Result<(), NoMemory>
+fn make_one(rows: &mut SeatedRows, number: u64, change: &Change) -> Result<(), NoMemory>
     ensures { (db : Database) → AreRows db.rows rows.old → db.count + 1 ≡ number → is_definition change.now ≡ false → OnOk result (AreRows (make db change.now).rows rows.new) }
 {
     match change {
@@ -28,7 +28,11 @@ fn make_one(rows: &mut BothRows, number: u64, change: &Change) -> Result<(), NoM
 
 /// Makes the changes of a commit on the rows of a database with so many changes: a row that is inserted has the number of its
 /// change. A definition makes nothing here.
-pub(crate) fn make_all(rows: &mut BothRows, count: u64, changes: &[Change]) -> Result<(), NoMemory>
+pub(crate) fn make_all(
+    rows: &mut SeatedRows,
+    count: u64,
+    changes: &[Change],
+) -> Result<(), NoMemory>
     requires { count + length changes.now ≤ 2 ^ 48 }
     ensures { (db : Database) → AreRows db.rows rows.old → db.count ≡ count → list_any is_definition changes.now ≡ false → OnOk result (AreRows (apply db changes.now).rows rows.new) }
 {

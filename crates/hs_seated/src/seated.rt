@@ -12,8 +12,8 @@ ghost use Rattle.hs_seated.specs.Rows.{AreRows};
 ghost use Rattle.hs_seated.specs.Seated.{inserted_in, setting_back, IsSeated, Touches};
 ghost use Rattle.hs_seated.specs.Steps.{IsSet, Makes};
 
-use crate::both_rows::BothRows;
 use crate::making::make_all;
+use crate::seated_rows::SeatedRows;
 use crate::step::Step;
 use hs_base::{NoMemory, RowNo, TableNo};
 use hs_draft::Draft;
@@ -28,7 +28,7 @@ const BEFORE_OWN: u64 = 0x8000_0000_0000_0000;
 /// changes can be taken back.
 #[derive(Drop)]
 pub struct Seated {
-    pub rows: BothRows,
+    pub rows: SeatedRows,
     // What leads back over each change, the oldest first.
     steps: Vec<Step>,
     // How many rows the changes insert.
@@ -55,8 +55,8 @@ fn copied(row: Option<&Row>) -> Result<Option<Row>, NoMemory>
     }
 }
 
-/// What a row is, None where it isn't there.
-pub(crate) fn kept(draft: &Draft, table: TableNo, row: RowNo) -> Result<Option<Row>, NoMemory>
+// What a row is, None where it isn't there.
+fn kept(draft: &Draft, table: TableNo, row: RowNo) -> Result<Option<Row>, NoMemory>
     ensures { IfOk result (λ old. old ≡ get (after draft.now table.0) row.0) }
 {
     copied(draft.rows(table).get(row))
@@ -73,7 +73,7 @@ fn old_of(step: &Step) -> Result<Option<Row>, NoMemory>
 }
 
 // Gives a row back what it was, and answers how many rows were inserted before its change.
-fn put_back(rows: &mut BothRows, step: &Step) -> Result<u64, NoMemory>
+fn put_back(rows: &mut SeatedRows, step: &Step) -> Result<u64, NoMemory>
     ensures rows { (maps : Maps) → AreRows maps rows.old → OnOk result (AreRows (set_row maps (setting_back step.now)) rows.new) }
     ensures inserted { IfOk result (λ inserted. inserted ≡ step.now.inserted) }
 {
@@ -84,7 +84,7 @@ fn put_back(rows: &mut BothRows, step: &Step) -> Result<u64, NoMemory>
 
 // Sets a row behind so many inserts, and keeps what it was.
 fn step(
-    rows: &mut BothRows,
+    rows: &mut SeatedRows,
     steps: &mut Vec<Step>,
     inserted: u64,
     table: TableNo,
@@ -109,11 +109,11 @@ impl Seated {
     pub fn new(alloc: Global) -> Seated
         ensures { IsSeated (λ table. empty) [] result }
     {
-        Seated::over(alloc, BothRows::new(alloc))
+        Seated::over(alloc, SeatedRows::new(alloc))
     }
 
     /// No changes on these rows. Takes no memory.
-    pub fn over(alloc: Global, rows: BothRows) -> Seated
+    pub fn over(alloc: Global, rows: SeatedRows) -> Seated
         ensures { (maps : Maps) → AreRows maps rows → IsSeated maps [] result }
     {
         Seated {

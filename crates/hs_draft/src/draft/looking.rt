@@ -8,6 +8,7 @@ ghost use Rattle.std.specs.Option.{option_copied, option_map_or};
 ghost use Rattle.std.specs.Ordering.{nat_cmp};
 ghost use Rattle.hs_sentences.specs.Asking.{any_of, passes_at};
 ghost use Rattle.hs_draft.specs.Drafted.{after, before, touched};
+ghost use Rattle.hs_rows.specs.Numbers.{IsBehind, next_in};
 
 use crate::draft::Draft;
 use hs_base::{NoMemory, RowNo, TableNo};
@@ -35,6 +36,15 @@ impl Draft {
             Some(table) => self.rows(table),
             None => &self.none,
         }
+    }
+
+    /// The row of a table with the least number behind this one, or the first row; None exactly where there is none.
+    /// Takes no memory.
+    pub fn row_behind(&self, table: TableNo, last: Option<RowNo>) -> Option<RowNo>
+        ensures row { result ≡ next_in (after self.now table.0) last }
+        ensures behind { IsBehind last result }
+    {
+        self.rows(table).row_behind(last)
     }
 
     /// Whether one of the rows of a table that were touched and are there passes a test.

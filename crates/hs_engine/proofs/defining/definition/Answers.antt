@@ -12,9 +12,6 @@ use Rattle.hs_engine.proofs.Defined.{next_in, proper_in, whole_in}
 use Rattle.hs_engine.proofs.Speaking.{definition_is, valid_is}
 use Rattle.hs_engine.proofs.defining.definition.Goals as goal
 
-pub judged-requires-clause-ready : goal.judged-requires-clause-ready
-judged-requires-clause-ready c = c.requires.valid.lawful.is.rows.rows.ready
-
 pub judged-requires-clause-count : goal.judged-requires-clause-count
 judged-requires-clause-count c = let same = c.requires.valid.lawful.is.count in let few = c.requires.valid.lawful.sound.numbered.few in omega (arith, same, few)
 

@@ -31,9 +31,6 @@ returns-in-Delete c = λ db s may.
     on_ok_weaker c.make_row-in-Delete.result (λ is. lawful_on db c.args.instance.now s c.requires.room c.args.change.now may c.make_row-in-Delete.new.self is)
     (c.make_row-in-Delete.ensures db s.is (ap is_definition c.in-Delete.is))
 
-pub define-requires-clause-is : goal.define-requires-clause-is
-define-requires-clause-is c = (c.requires.held.0, c.requires.held.1.0.is)
-
 pub define-requires-clause-bound : goal.define-requires-clause-bound
 define-requires-clause-bound c =
     let its : c.args.change.now ≡ change.Define c.get.result.now = c.in-Define.is ∙ ap (λ (d : Definition). change.Define d) (sym c.get.ensures) in

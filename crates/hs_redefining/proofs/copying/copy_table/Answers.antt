@@ -5,7 +5,7 @@ use Rattle.hs_draft.specs.Drafted.{after}
 use Rattle.hs_index.specs.Table.{Rows}
 use Rattle.hs_rows.specs.Numbers.{next_in}
 use Rattle.hs_redefining.specs.Longer.{longer}
-use Rattle.hs_seated.proofs.Mixed.{AreMixed, none_mixed}
+use Rattle.hs_redefining.proofs.ByNumber.{AreMixed, none_mixed}
 use Rattle.hs_redefining.proofs.Mixed.{copied_all, copied_on, set_elsewhere, set_here, table_set}
 use Rattle.hs_redefining.proofs.copying.copy_table.Goals as goal
 
@@ -25,7 +25,7 @@ loop-row-preserved c =
     let kept = after c.args.from.now.draft n in
     record {
       rows = λ maps grown are its within.
-          let next = c.in-Some.ensures.row tt ∙ ap (λ (m : Rows). next_in m c.loop-row.last) (are.plain n) in
+          let next = c.in-Some.ensures.row ∙ ap (λ (m : Rows). next_in m c.loop-row.last) (are.draft n) in
           let made = set_here n r.0 (longer more (get kept r.0)) held (after c.copy_row.new.into) c.in_ok-copy_row.ensures ∙ ap (λ (m : Rows). with_values (held n) r.0 (longer more (get m r.0))) (are.draft n) in
           subst (AreMixed grown base (suc r.0)) (sym made)
           (copied_on more (maps n) grown base its within (held n) c.loop-row.last r next (c.loop-row.invariant.rows maps grown are its within));
@@ -37,5 +37,5 @@ returns c = λ maps grown are its within.
     let n = c.args.table.0 in
     let base = after c.args.into.now n in
     let held = after c.loop-row.into in
-    let none = c.in_default.ensures.row tt ∙ ap (λ (m : Rows). next_in m c.loop-row.last) (are.plain n) in
+    let none = c.in_default.ensures.row ∙ ap (λ (m : Rows). next_in m c.loop-row.last) (are.draft n) in
     table_set n grown (after c.args.into.now) held (copied_all c.args.more.now (maps n) grown base its within (held n) c.loop-row.last none (c.loop-row.invariant.rows maps grown are its within)) c.loop-row.invariant.others

@@ -5,7 +5,7 @@ use Rattle.hs_index.specs.Table.{Rows}
 use Rattle.hs_rows.specs.Numbers.{start}
 use Rattle.hs_seated.specs.Rows.{AreRows}
 use Rattle.hs_redefining.specs.Longer.{AreLonger, AreWithin}
-use Rattle.hs_seated.proofs.Mixed.{AreMixed}
+use Rattle.hs_redefining.proofs.ByNumber.{AreMixed}
 use Rattle.hs_redefining.proofs.copying.copy_table.Given as goal
 
 abbrev pub invariant-loop-row : goal.invariant-loop-row

@@ -16,7 +16,7 @@ loop-row-preserved c = λ maps are.
     let n = c.args.table.0 in
     let test = limit.is_long c.args.cat.now c.args.table in
     let value = c.args.value.now in
-    let next = c.in-Some.ensures.row tt ∙ ap (λ (m : Rows). next_in m c.loop-row.last) (are.plain n) in
+    let next = c.in-Some.ensures.row ∙ ap (λ (m : Rows). next_in m c.loop-row.last) (are.draft n) in
     let told = sym c.if-branch.false ∙ c.in_ok-becomes_long.ensures ∙ ap (λ (m : Rows). option_map_or test (longer (value ∷ []) (get m c.in-Some.row.0)) false) (are.draft n) in
     c.loop-row.invariant maps are ∙ one_left test value (maps n) c.loop-row.last c.in-Some.row false next told
 
@@ -25,12 +25,12 @@ returns-then-branch c = λ maps are.
     let n = c.args.table.0 in
     let test = limit.is_long c.args.cat.now c.args.table in
     let value = c.args.value.now in
-    let next = c.in-Some.ensures.row tt ∙ ap (λ (m : Rows). next_in m c.loop-row.last) (are.plain n) in
+    let next = c.in-Some.ensures.row ∙ ap (λ (m : Rows). next_in m c.loop-row.last) (are.draft n) in
     let told = sym c.if-branch.true ∙ c.in_ok-becomes_long.ensures ∙ ap (λ (m : Rows). option_map_or test (longer (value ∷ []) (get m c.in-Some.row.0)) false) (are.draft n) in
     sym (c.loop-row.invariant maps are ∙ one_left test value (maps n) c.loop-row.last c.in-Some.row true next told)
 
 pub returns : goal.returns
 returns c = λ maps are.
     let n = c.args.table.0 in
-    let none = c.in_default.ensures.row tt ∙ ap (λ (m : Rows). next_in m c.loop-row.last) (are.plain n) in
+    let none = c.in_default.ensures.row ∙ ap (λ (m : Rows). next_in m c.loop-row.last) (are.draft n) in
     sym (c.loop-row.invariant maps are ∙ nothing_left (limit.is_long c.args.cat.now c.args.table) c.args.value.now (maps n) c.loop-row.last none)

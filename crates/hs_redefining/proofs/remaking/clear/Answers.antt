@@ -1,7 +1,6 @@
 use Rattle.std.specs.FinMap.{empty}
 use Rattle.hs_redefining.proofs.Mixed.{none_within}
-use Rattle.hs_seated.proofs.Partly.{partly_none}
-use Rattle.hs_redefining.proofs.Partly.{partly_all, partly_cleared}
+use Rattle.hs_redefining.proofs.Partly.{partly_all, partly_cleared, partly_none}
 use Rattle.hs_redefining.proofs.remaking.clear.Goals as goal
 
 pub loop-row-init : goal.loop-row-init
@@ -9,11 +8,8 @@ loop-row-init c = λ maps are. partly_none c.args.table.0 empty maps c.args.rows
 
 pub loop-row-preserved : goal.loop-row-preserved
 loop-row-preserved c = λ maps are.
-    partly_cleared c.args.table.0 maps c.loop-row.rows c.loop-row.last c.in-Some.row c.set.new.self (c.in-Some.ensures.row tt) c.in_ok-set.ensures.rows (c.loop-row.invariant maps are)
+    partly_cleared c.args.table.0 maps c.loop-row.rows c.loop-row.last c.in-Some.row c.set.new.self c.in-Some.ensures.row c.in_ok-set.ensures.rows (c.loop-row.invariant maps are)
 
 pub returns : goal.returns
 returns c = λ maps are.
-    partly_all c.args.table.0 maps c.loop-row.rows empty c.loop-row.last (none_within (maps c.args.table.0)) (c.in_default.ensures.row tt) (c.loop-row.invariant maps are)
-
-pub next_row-requires : goal.next_row-requires
-next_row-requires c = (c.loop-row.invariant c.requires.0 c.requires.1).rows.ready
+    partly_all c.args.table.0 maps c.loop-row.rows empty c.loop-row.last (none_within (maps c.args.table.0)) c.in_default.ensures.row (c.loop-row.invariant maps are)

@@ -3,7 +3,7 @@ use Rattle.hs_changes.specs.Settings.{Maps}
 use Rattle.hs_turns.specs.Definitions.{lengthened}
 use Rattle.hs_rows.specs.Numbers.{start}
 use Rattle.hs_seated.specs.Rows.{AreRows}
-use Rattle.hs_seated.proofs.Partly.{ArePartly}
+use Rattle.hs_redefining.proofs.Partly.{ArePartly}
 use Rattle.hs_redefining.proofs.remaking.lengthen.Given as goal
 
 abbrev pub invariant-loop-row : goal.invariant-loop-row

@@ -3,9 +3,6 @@ use Rattle.std.proofs.lemmas.Option.{slice_get_within}
 use Rattle.std.proofs.lemmas.Result.{on_ok_weaker}
 use Rattle.hs_redefining.proofs.remaking.redefine.Goals as goal
 
-pub remake_all-requires : goal.remake_all-requires
-remake_all-requires c = (c.requires.0, c.requires.1.rows)
-
 pub returns : goal.returns
 returns c = λ maps is.
     let none : length c.args.seated.now.steps.items ≡ 0 = is.count in

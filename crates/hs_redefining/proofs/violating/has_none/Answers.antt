@@ -8,4 +8,4 @@ pub returns-in-Some : goal.returns-in-Some
 returns-in-Some c = λ yes maps are. absurd (let no : false ≡ true = yes in cc)
 
 pub returns-in-None : goal.returns-in-None
-returns-in-None c = λ yes maps are. no_rows (maps c.args.table.0) (c.in-None.ensures.row tt ∙ ap (λ (m : Rows). next_in m None) (are.plain c.args.table.0))
+returns-in-None c = λ yes maps are. no_rows (maps c.args.table.0) (c.in-None.ensures.row ∙ ap (λ (m : Rows). next_in m None) (are.draft c.args.table.0))

@@ -5,9 +5,6 @@ use Rattle.hs_engine.proofs.Standing.{seated_so}
 use Rattle.hs_engine.specs.Store.{IsHere, Stands}
 use Rattle.hs_engine.proofs.store.SqlStoreStore.evaluate.Goals as goal
 
-pub evaluated-requires-clause-ready : goal.evaluated-requires-clause-ready
-evaluated-requires-clause-ready g c = let x = c.requires.ready in x.3.0.lawful.is.rows.rows.ready
-
 pub returns : goal.returns
 returns g c = λ w commits seated s valid.
     let wording = g.C.Conditions.wording c.args.self.now.conditions in

@@ -1,7 +1,7 @@
 use Rattle.std.proofs.Common.{sym, subst}
 use Rattle.hs_rows.specs.Numbers.{IsBehind}
 use Rattle.hs_plainrows.specs.Held.{rows_at}
-use Rattle.hs_plainrows.proofs.Ordered.{next_is_behind}
+use Rattle.hs_keyed.proofs.Ordered.{next_is_behind}
 use Rattle.hs_plainrows.proofs.plain_rows.PlainRowsRows.next_row.Goals as goal
 
 pub returns-clause-behind : goal.returns-clause-behind

@@ -1,52 +1,21 @@
-// Rows that are kept for queries and for constraints.
-ghost use Rattle.std.specs.Prelude.{◌≡◌, ℕ, ◌==◌, ◌&&◌, ◌||◌, [], Option, IfOk, OnOk};
+// The rows of all tables, as constraints and queries look at them.
+ghost use Rattle.std.specs.Prelude.{◌≡◌, ℕ, ◌==◌, ◌&&◌, ◌||◌, [], IfOk, OnOk};
 ghost use Rattle.std.specs.FinMap.{empty};
 ghost use Rattle.hs_changes.specs.Settings.{Maps, set_row};
 ghost use Rattle.hs_draft.specs.Drafted.{after, before, touched};
-ghost use Rattle.hs_plainrows.specs.Ready.{tables_of, IsReady};
 ghost use Rattle.hs_sentences.specs.Asking.{is_one_of};
 ghost use Rattle.hs_seated.specs.Rows.{AreRows};
 
-use crate::copying::copied_rows;
 use hs_base::{NoMemory, RowNo, TableNo};
 use hs_draft::Draft;
-use hs_plainrows::PlainRows;
 use hs_values::Row;
 use std::alloc::Global;
 
-/// The rows of all tables, kept twice: as constraints look at them, with what changed rows were before, and in the order of
-/// their numbers, as queries look at them.
+/// The rows of all tables, with what changed rows were before. Constraints look at the draft, and queries through
+/// `DraftRows`.
 #[derive(Drop)]
-pub struct BothRows {
+pub struct SeatedRows {
     pub draft: Draft,
-    pub plain: PlainRows,
-}
-
-fn copied(values: &Option<Row>) -> Result<Option<Row>, NoMemory>
-    ensures { IfOk result (λ copied. copied ≡ values.now) }
-{
-    match values {
-        Some(values) => Ok(Some(values.copy()?)),
-        None => Ok(None),
-    }
-}
-
-fn set_plain(
-    plain: &mut PlainRows,
-    table: TableNo,
-    row: RowNo,
-    values: Option<Row>,
-) -> Result<(), NoMemory>
-    ensures rows { OnOk result ((t : ℕ) → tables_of plain.new t ≡ set_row (tables_of plain.old) (record { table = table.0; row = row.0; values = values }) t) }
-    ensures ready { IsReady plain.new }
-{
-    match values {
-        Some(values) => plain.put(table, row, values),
-        None => {
-            plain.remove(table, row);
-            Ok(())
-        }
-    }
 }
 
 fn set_draft(
@@ -65,14 +34,13 @@ fn set_draft(
     }
 }
 
-impl BothRows {
+impl SeatedRows {
     /// No rows. Takes no memory.
-    pub fn new(alloc: Global) -> BothRows
+    pub fn new(alloc: Global) -> SeatedRows
         ensures { AreRows (λ table. empty) result }
     {
-        BothRows {
+        SeatedRows {
             draft: Draft::new(alloc),
-            plain: PlainRows::new(alloc),
         }
     }
 
@@ -83,8 +51,6 @@ impl BothRows {
         ensures before { (t : ℕ) → before self.new.draft t ≡ before self.old.draft t }
         ensures touched { OnOk result ((t n : ℕ) → is_one_of (touched self.new.draft t) n ≡ ((t == table.0 && n == row.0) || is_one_of (touched self.old.draft t) n)) }
     {
-        let again = copied(&values)?;
-        set_plain(&mut self.plain, table, row, again)?;
         set_draft(&mut self.draft, table, row, values)
     }
 
@@ -96,11 +62,13 @@ impl BothRows {
     {
         self.draft.accept();
     }
-    /// The rows once more. They count as those before the changes to come. An `Err` is want of memory.
-    pub fn copy(&self, alloc: Global) -> Result<BothRows, NoMemory>
+
+    /// The rows once more, with no index. They count as those before the changes to come. An `Err` is want of memory.
+    pub fn copy(&self, alloc: Global) -> Result<SeatedRows, NoMemory>
         ensures rows { (maps : Maps) → AreRows maps self.now → IfOk result (AreRows maps) }
         ensures touched { IfOk result (λ copied. (t : ℕ) → touched copied.draft t ≡ []) }
     {
-        copied_rows(alloc, self)
+        let draft = self.draft.copy(alloc)?;
+        Ok(SeatedRows { draft })
     }
 }

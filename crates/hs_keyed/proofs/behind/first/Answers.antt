@@ -2,8 +2,8 @@ use Rattle.std.proofs.Common.{None, sym, ap, ◌∙◌}
 use Rattle.std.proofs.lemmas.Map.Iter.{rest_more, rest_all}
 use Rattle.std.specs.Map.Iter.{deref_pair}
 use Rattle.hs_rows.specs.Numbers.{first_number}
-use Rattle.hs_plainrows.proofs.Ordered.{first-of, next-of}
-use Rattle.hs_plainrows.proofs.held.first.Goals as goal
+use Rattle.hs_keyed.proofs.Ordered.{first-of, next-of}
+use Rattle.hs_keyed.proofs.behind.first.Goals as goal
 
 pub returns-in-Some : goal.returns-in-Some
 returns-in-Some c =
