@@ -6,18 +6,17 @@ ghost use Rattle.hs_values.specs.Outcome.{Gives};
 ghost use Rattle.hs_answer.specs.Places.{over_row};
 ghost use Rattle.hs_expression.specs.Expression.{value_of};
 ghost use Rattle.hs_expression.specs.Surroundings.{outside, rows_around};
-ghost use Rattle.hs_places.specs.Keyed.{rows_or_one};
 ghost use Rattle.hs_places.specs.Places.{places_over};
 ghost use Rattle.hs_settled.specs.Spots.{spots_seen};
 ghost use Rattle.hs_eval.specs.Parts.{aggregate_by, place_at};
 
 use hs_ast::Aggregate;
 use hs_expression::{Around, Place, aggregate_value};
-use hs_places::{Over, Places, all_values, one_row};
+use hs_places::{Over, Places, all_values};
 use hs_plan::Expr;
 use hs_settled::Spots;
 use hs_valued::value_at;
-use hs_values::{EvalFault, Row, RowList, Value};
+use hs_values::{EvalFault, Row, Value};
 use std::alloc::{AllocError, Global};
 
 /// The value or the fault that an evaluation gave. An `Err` is want of memory.
@@ -87,27 +86,6 @@ pub(crate) fn group_spots<'a>(place: &Place<'a>) -> Spots<'a>
     ensures { spots_seen result ≡ map (over_row (outside (rows_around place.now.around.now))) place.now.group.now }
 {
     row_spots(place.around.outside(), place.group)
-}
-
-/// The rows, or the one row without columns where there are none yet. An `Err` is want of memory.
-pub(crate) fn rows_or_one(alloc: Global, rows: Option<RowList>) -> Result<RowList, AllocError>
-    ensures { IfOk result (λ all. all ≡ rows_or_one rows) }
-{
-    match rows {
-        Some(rows) => Ok(rows),
-        None => one_row(alloc),
-    }
-}
-
-/// Copies of rows. An `Err` is want of memory.
-pub(crate) fn copied(alloc: Global, rows: &[Row]) -> Result<RowList, AllocError>
-    ensures { IfOk result (λ copies. copies ≡ rows.now) }
-{
-    let mut copies = RowList::new(alloc);
-    for row in rows {
-        copies.push(row.copy()?)?;
-    }
-    Ok(copies)
 }
 
 /// An aggregate of what its operand gives at the rows of a group. An `Err` is the least fault of the operand, then that of the

@@ -5,17 +5,21 @@ ghost use Rattle.hs_answer.specs.Groups.{places_of};
 ghost use Rattle.hs_answer.specs.Selects.{having_true, where_true};
 ghost use Rattle.hs_copied.specs.Copies.{maps_of};
 ghost use Rattle.hs_expression.specs.Surroundings.{rows_around};
+ghost use Rattle.hs_answer.specs.Places.{value_over};
+ghost use Rattle.hs_matching.specs.Sides.{sides_rows};
 ghost use Rattle.hs_places.specs.Lines.{lines_seen};
 ghost use Rattle.hs_places.specs.Places.{places_over};
+ghost use Rattle.hs_rel.specs.Selection.{selected};
 ghost use Rattle.hs_settled.specs.Giving.{GivesAs};
 ghost use Rattle.hs_values.specs.Outcome.{Gives};
 ghost use Rattle.hs_eval.specs.Parts.{item_lines};
 
 use crate::columns::{column, column_over, row_columns};
-use crate::from::from_rows;
+use crate::from::{from_sides, matched_rows};
 use crate::outcomes::{over_spots, row_spots};
 use hs_copied::TableCopies;
 use hs_expression::Around;
+use hs_matching::Sides;
 use hs_places::{Lines, Over};
 use hs_plan::{Expr, Select};
 use hs_settled::{grouped, kept, lines, true_rows};
@@ -31,8 +35,8 @@ pub(crate) fn select_lines(
 ) -> Result<Lines, EvalFault>
     ensures { GivesAs (lines_seen (rows_around outer.now)) result (select_in (maps_of copies.now) select.now (rows_around outer.now)) }
 {
-    let all = from_rows(select.from.as_slice(), copies, outer)?;
-    let rows = where_rows(&select.filter, all, copies, outer)?;
+    let sides = from_sides(select.from.as_slice(), copies, outer)?;
+    let rows = where_rows(&select.filter, sides, copies, outer)?;
     let over = grouped_over(
         select.group_by.as_slice(),
         select.grouped,
@@ -50,22 +54,46 @@ pub(crate) fn select_lines(
     )
 }
 
-/// The rows for which WHERE is TRUE. An `Err` is its least fault, or want of memory.
+/// The rows of FROM for which WHERE is TRUE. An `Err` is its least fault, or want of memory.
 #[cycle(evaluation)]
 fn where_rows(
     condition: &Option<Boxed<Expr>>,
-    rows: RowList,
+    sides: Sides<'_>,
     copies: &TableCopies,
     outer: &Around<'_>,
 ) -> Result<RowList, EvalFault>
-    ensures { Gives result (where_true (rows_around outer.now) (option_map (value_in (maps_of copies.now)) condition.now) rows) }
+    ensures { Gives result (where_true (rows_around outer.now) (option_map (value_in (maps_of copies.now)) condition.now) (sides_rows sides.entry)) }
 {
     match condition {
-        Some(e) => {
-            let outcomes = column_over(e.get(), copies, outer, rows.as_slice())?;
+        Some(e) => chosen_rows(e.get(), sides, copies, outer),
+        None => Ok(sides.into_rows(copies.allocator())?),
+    }
+}
+
+/// The rows of FROM for which a condition is TRUE, which joins its two sides. An `Err` is its least fault, or want of memory.
+#[cycle(evaluation)]
+fn chosen_rows(
+    condition: &Expr,
+    sides: Sides<'_>,
+    copies: &TableCopies,
+    outer: &Around<'_>,
+) -> Result<RowList, EvalFault>
+    ensures { Gives result (selected (value_over (value_in (maps_of copies.now) condition.now) (rows_around outer.now)) (sides_rows sides.entry)) }
+{
+    match sides {
+        Sides::Two(left, right) => matched_rows(
+            condition,
+            None,
+            left.as_slice(),
+            right.as_slice(),
+            copies,
+            outer,
+        ),
+        one => {
+            let rows = one.into_rows(copies.allocator())?;
+            let outcomes = column_over(condition, copies, outer, rows.as_slice())?;
             true_rows(rows, &outcomes)
         }
-        None => Ok(rows),
     }
 }
 

@@ -1,4 +1,4 @@
-use Rattle.std.proofs.Common.{ℕ, List, [], ◌∷◌, ◌++◌, map, length, fold, take, Option, Some, None, Result, Ok, sym, ap, ◌∙◌, arith}
+use Rattle.std.proofs.Common.{ℕ, List, [], ◌∷◌, ◌++◌, map, length, fold, take, Option, Some, Result, Ok, sym, ap, subst, ◌∙◌, arith}
 use Rattle.std.proofs.lemmas.List.{length-map, take_all}
 use Rattle.std.proofs.lemmas.List.Folds.{fold-map}
 use Rattle.std.proofs.lemmas.List.Sums.{fold_more}
@@ -11,7 +11,8 @@ use Rattle.hs_plan.specs.declared.query.QueryBody.{QueryBody}
 use Rattle.hs_plan.specs.declared.query.SortKey.{SortKey}
 use Rattle.hs_plan.specs.declared.query.ValuesRow.{ValuesRow}
 use Rattle.hs_values.specs.declared.fault.EvalFault.{EvalFault}
-use Rattle.hs_values.specs.Outcome.{◌>>=◌}
+use Rattle.hs_values.specs.declared.value.Value.{Value}
+use Rattle.hs_values.specs.Outcome.{Gives, ◌>>=◌}
 use Rattle.hs_expression.specs.Expression.{valued_at, value_of}
 use Rattle.hs_expression.specs.Outcomes.{all_or_least}
 use Rattle.hs_expression.specs.Surroundings.{Rows, Valued, rows_around, surroundings_of}
@@ -22,17 +23,22 @@ use Rattle.hs_answer.specs.Order.{keys_at}
 use Rattle.hs_answer.specs.Places.{over_row, value_over, values_at}
 use Rattle.hs_answer.specs.Selects.{having_true, where_true}
 use Rattle.hs_copied.specs.Copies.{maps_of}
+use Rattle.hs_matching.specs.Sides.{side_rows, sides_rows}
+use Rattle.hs_matching.specs.Ties.{RightSide, partners}
+use Rattle.hs_matching.proofs.LeftOut.{partners_suffice}
 use Rattle.hs_places.specs.Keyed.{descends}
 use Rattle.hs_places.specs.Lines.{lines_seen}
 use Rattle.hs_places.specs.Places.{places_over}
-use Rattle.hs_rel.specs.Join.{joined, left_joined}
-use Rattle.hs_rel.specs.Selection.{Verdict}
+use Rattle.hs_rel.specs.Join.{joined, left_joined, product}
+use Rattle.hs_rel.specs.Selection.{Verdict, selected}
 use Rattle.hs_settled.specs.Columns.{column_of, no_columns, with_column}
-use Rattle.hs_settled.specs.Joins.{joined_by}
+use Rattle.hs_settled.specs.Joins.{with_row}
 use Rattle.hs_settled.specs.Parts.{RowOutcome, sorted_given}
 use Rattle.hs_settled.specs.Spots.{key_place, spots_seen}
 use Rattle.hs_settled.proofs.AtSpots.{in_group}
 use Rattle.hs_settled.proofs.Clauses.{over_rows, query_is as query_sorted}
+use Rattle.hs_stages.specs.declared.gathered.Gathered.{Gathered}
+use Rattle.hs_stages.specs.Gathering.{nothing}
 use Rattle.hs_eval.specs.Parts.{aggregate_by, aggregate_of}
 use Rattle.hs_eval.proofs.AtEach.{columns_all, flags_are, keys_all, many_seen, output_at, place_next, plain_column, value_at_lines}
 use Rattle.hs_eval.proofs.Gathered.{mapped_twice}
@@ -117,41 +123,72 @@ expressions::value-returns-in-Aggregate t c =
 
 -- ---- FROM
 
-pub from::join_rows-returns-in-Inner : goal.from::join_rows-returns-in-Inner
-from::join_rows-returns-in-Inner t c =
+pub from::join_rows-returns-in_ok-right-in-Inner : goal.from::join_rows-returns-in_ok-right-in-Inner
+from::join_rows-returns-in_ok-right-in-Inner t c =
     let tables = maps_of c.args.copies.now in
     let outer = rows_around c.args.outer.now in
     let verdict : Verdict = value_over (value_in tables c.in-Inner.on) outer in
-    let right = c.in_ok-right-in-Inner.right in
-    given_too c.matched_rows.result (joined_by None verdict c.args.left right) (join_in tables c.args.join.now outer c.args.left) c.matched_rows.ensures
-    (ap (λ (j : Join). join_in tables j outer c.args.left) c.in-Inner.is
-    ∙ ap (λ g. g outer c.args.left) (inner_is tables c.in-Inner.source c.in-Inner.on)
-    ∙ ap (λ (r : Result Rows EvalFault). r >>= λ right. joined verdict c.args.left right) c.in_ok-right-in-Inner.ensures)
+    let left : Rows = side_rows c.args.left in
+    let right : Rows = side_rows c.in_ok-right-in-Inner.right in
+    given_too c.matched_rows.result (joined verdict left right) (join_in tables c.args.join.now outer left)
+    (subst (λ (two : Rows × Rows). Gives c.matched_rows.result (joined verdict two.0 two.1)) (λ i. (c.as_slice.ensures i, c.as_slice-in-Inner.ensures i)) c.matched_rows.ensures)
+    (ap (λ (j : Join). join_in tables j outer left) c.in-Inner.is
+    ∙ ap (λ g. g outer left) (inner_is tables c.in-Inner.source c.in-Inner.on)
+    ∙ ap (λ (r : Result Rows EvalFault). r >>= λ right. joined verdict left right) c.in_ok-right-in-Inner.ensures)
 
-pub from::join_rows-returns-in-Left : goal.from::join_rows-returns-in-Left
-from::join_rows-returns-in-Left t c =
+pub from::join_rows-returns-in_ok-right-in-Left : goal.from::join_rows-returns-in_ok-right-in-Left
+from::join_rows-returns-in_ok-right-in-Left t c =
     let tables = maps_of c.args.copies.now in
     let outer = rows_around c.args.outer.now in
     let verdict : Verdict = value_over (value_in tables c.in-Left.on) outer in
-    let right = c.in_ok-right-in-Left.right in
-    given_too c.matched_rows-in-Left.result (joined_by (Some c.width_of.result) verdict c.args.left right) (join_in tables c.args.join.now outer c.args.left) c.matched_rows-in-Left.ensures
-    (ap (λ (j : Join). join_in tables j outer c.args.left) c.in-Left.is
-    ∙ ap (λ g. g outer c.args.left) (left_is tables c.in-Left.source c.in-Left.on)
-    ∙ ap (λ (r : Result Rows EvalFault). r >>= λ right. left_joined verdict (source_in tables c.in-Left.source).width c.args.left right) c.in_ok-right-in-Left.ensures
-    ∙ ap (λ (n : ℕ). left_joined verdict n c.args.left right) (sym (c.width_of.ensures tables)))
+    let left : Rows = side_rows c.args.left in
+    let right : Rows = side_rows c.in_ok-right-in-Left.right in
+    given_too c.matched_rows-in-Left.result (left_joined verdict c.width_of.result left right) (join_in tables c.args.join.now outer left)
+    (subst (λ (two : Rows × Rows). Gives c.matched_rows-in-Left.result (left_joined verdict c.width_of.result two.0 two.1)) (λ i. (c.as_slice-in-Left.ensures i, c.as_slice-in-Left-2.ensures i)) c.matched_rows-in-Left.ensures)
+    (ap (λ (j : Join). join_in tables j outer left) c.in-Left.is
+    ∙ ap (λ g. g outer left) (left_is tables c.in-Left.source c.in-Left.on)
+    ∙ ap (λ (r : Result Rows EvalFault). r >>= λ right. left_joined verdict (source_in tables c.in-Left.source).width left right) c.in_ok-right-in-Left.ensures
+    ∙ ap (λ (n : ℕ). left_joined verdict n left right) (sym (c.width_of.ensures tables)))
+
+pub from::matched_rows-loop-row-preserved : goal.from::matched_rows-loop-row-preserved
+from::matched_rows-loop-row-preserved t c =
+    let tables = maps_of c.args.copies.now in
+    let outer = rows_around c.args.outer.now in
+    let verdict : Verdict = value_over (value_in tables c.args.on.now) outer in
+    let p : RightSide = c.in_ok-partners.partners in
+    let row = c.row-item.result in
+    let so_far = c.loop-row.so_far in
+    let gather : Gathered → List Value → Gathered = with_row c.args.width verdict c.args.right.now in
+    c.in_ok-take_pairs.ensures verdict (partners p row) c.in_ok-pairs.ensures (c.deref.ensures.value ∙ c.in_ok-outcomes.ensures ∙ ap (map verdict) c.as_slice.ensures)
+    ∙ partners_suffice verdict p (c.in_ok-partners.ensures.tie tables outer) c.args.width so_far row
+    ∙ ap (λ (rows : Rows). with_row c.args.width verdict rows so_far row) c.in_ok-partners.ensures.rows
+    ∙ (λ i. gather (c.loop-row.invariant i) (c.row-item.is i))
+    ∙ sym (fold_more gather nothing c.args.left.now c.loop-row.row-index row c.loop-row-test.true)
 
 -- ---- SELECT, in the order of its clauses
 
-pub select::where_rows-returns-in_ok-outcomes-in-Some : goal.select::where_rows-returns-in_ok-outcomes-in-Some
-select::where_rows-returns-in_ok-outcomes-in-Some t c =
+pub select::chosen_rows-returns-in-Two : goal.select::chosen_rows-returns-in-Two
+select::chosen_rows-returns-in-Two t c =
+    let verdict : Verdict = value_over (value_in (maps_of c.args.copies.now) c.args.condition.now) (rows_around c.args.outer.now) in
+    subst (λ (rows : Rows). Gives c.matched_rows.result (selected verdict rows))
+    ((λ i. product (c.as_slice.ensures i) (c.as_slice-in-Two.ensures i)) ∙ sym (ap sides_rows c.in-Two.is))
+    c.matched_rows.ensures
+
+pub select::chosen_rows-returns-in_ok-outcomes-in_default : goal.select::chosen_rows-returns-in_ok-outcomes-in_default
+select::chosen_rows-returns-in_ok-outcomes-in_default t c =
+    let a : Valued = value_in (maps_of c.args.copies.now) c.args.condition.now in
+    let outer = rows_around c.args.outer.now in
+    subst (λ (rows : Rows). Gives c.true_rows.result (selected (value_over a outer) rows)) c.in_ok-rows-in_default.ensures
+    (where_given a outer c.in_ok-rows-in_default.rows c.deref.result.now c.true_rows.result
+    (c.deref.ensures.value ∙ c.in_ok-outcomes-in_default.ensures ∙ ap (map (value_over a outer)) c.as_slice-in_default.ensures)
+    c.true_rows.ensures)
+
+pub select::where_rows-returns-in-Some : goal.select::where_rows-returns-in-Some
+select::where_rows-returns-in-Some t c =
     let tables = maps_of c.args.copies.now in
     let outer = rows_around c.args.outer.now in
-    let a : Valued = value_in tables c.get.result.now in
-    let rows = c.args.rows in
-    given_too c.true_rows.result (where_true outer (Some a) rows) (where_true outer (option_map (value_in tables) c.args.condition.now) rows)
-    (where_given a outer rows c.deref.result.now c.true_rows.result
-    (c.deref.ensures.value ∙ c.in_ok-outcomes-in-Some.ensures ∙ ap (map (value_over a outer)) c.as_slice.ensures)
-    c.true_rows.ensures)
+    let rows : Rows = sides_rows c.args.sides in
+    given_too c.chosen_rows.result (where_true outer (Some (value_in tables c.get.result.now)) rows) (where_true outer (option_map (value_in tables) c.args.condition.now) rows) c.chosen_rows.ensures
     (ap (λ (o : Option Expr). where_true outer (option_map (value_in tables) o) rows) c.in-Some.is
     ∙ ap (λ (x : Expr). where_true outer (Some (value_in tables x)) rows) (sym c.get.ensures))
 
@@ -198,7 +235,7 @@ select::select_lines-returns t c =
     let kept = places_over outer c.in_ok-kept.kept in
     shown_too (lines_seen outer) c.item_lines.result (behind_having y outer kept) _ c.item_lines.ensures
     (select_over tables x outer from group_by items c.as_slice.ensures c.as_slice-2.ensures c.as_slice-3.ensures
-    ∙ after_having y outer c.in_ok-all.all c.in_ok-rows.rows groups (Ok kept) c.in_ok-all.ensures c.in_ok-rows.ensures c.in_ok-over.ensures c.in_ok-kept.ensures)
+    ∙ after_having y outer (sides_rows c.in_ok-sides.sides) c.in_ok-rows.rows groups (Ok kept) c.in_ok-sides.ensures c.in_ok-rows.ensures c.in_ok-over.ensures c.in_ok-kept.ensures)
 
 -- ---- bodies
 

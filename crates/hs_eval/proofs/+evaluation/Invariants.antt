@@ -7,7 +7,7 @@ use Rattle.hs_answer.specs.Bodies.{values_row}
 use Rattle.hs_answer.specs.From.{beside, from_rows, joined_to}
 use Rattle.hs_answer.specs.Places.{value_over}
 use Rattle.hs_copied.specs.Copies.{maps_of}
-use Rattle.hs_places.specs.Keyed.{rows_or_one}
+use Rattle.hs_matching.specs.Sides.{side_rows, sides_rows}
 use Rattle.hs_places.specs.Lines.{lines_seen}
 use Rattle.hs_settled.specs.Columns.{no_columns, with_column}
 use Rattle.hs_settled.specs.Joins.{with_row}
@@ -34,14 +34,14 @@ invariant-lists::chosen-loop-arm l = chosen_by (maps_of l.copies) (surroundings_
 abbrev pub invariant-lists::first_known-loop-e : goal.invariant-lists::first_known-loop-e
 invariant-lists::first_known-loop-e l = known_by (maps_of l.copies) (surroundings_of l.place) l.operands ≡ known_by (maps_of l.copies) (surroundings_of l.place) (drop l.e-index l.operands)
 
-abbrev pub invariant-from::from_rows-loop-element : goal.invariant-from::from_rows-loop-element
-invariant-from::from_rows-loop-element l = beside (rows_around l.outer) (map (element_in (maps_of l.copies)) (drop l.element-index l.elements)) (rows_or_one l.rows) ≡ from_rows (rows_around l.outer) (map (element_in (maps_of l.copies)) l.elements)
+abbrev pub invariant-from::from_sides-loop-element : goal.invariant-from::from_sides-loop-element
+invariant-from::from_sides-loop-element l = beside (rows_around l.outer) (map (element_in (maps_of l.copies)) (drop l.element-index l.elements)) (sides_rows l.sides) ≡ from_rows (rows_around l.outer) (map (element_in (maps_of l.copies)) l.elements)
 
 abbrev pub invariant-from::joined_rows-loop-join : goal.invariant-from::joined_rows-loop-join
-invariant-from::joined_rows-loop-join l = joined_to (rows_around l.outer) (map (join_in (maps_of l.copies)) (drop l.join-index l.joins)) l.rows ≡ joined_to (rows_around l.outer) (map (join_in (maps_of l.copies)) l.joins) l.fn.left
+invariant-from::joined_rows-loop-join l = joined_to (rows_around l.outer) (map (join_in (maps_of l.copies)) (drop l.join-index l.joins)) (side_rows l.rows) ≡ joined_to (rows_around l.outer) (map (join_in (maps_of l.copies)) l.joins) (side_rows l.fn.left)
 
 abbrev pub invariant-from::matched_rows-loop-row : goal.invariant-from::matched_rows-loop-row
-invariant-from::matched_rows-loop-row l = l.so_far ≡ fold (with_row l.width (value_over (value_in (maps_of l.copies) l.on) (rows_around l.outer)) l.right) nothing (take l.row-index l.row-items)
+invariant-from::matched_rows-loop-row l = l.so_far ≡ fold (with_row l.width (value_over (value_in (maps_of l.copies) l.on) (rows_around l.outer)) l.right) nothing (take l.row-index l.left)
 
 abbrev pub invariant-bodies::values_rows-loop-row : goal.invariant-bodies::values_rows-loop-row
 invariant-bodies::values_rows-loop-row l = l.all.items ≡ map (λ row. values_row l.kinds (rows_around l.outer) (row_in (maps_of l.copies) row)) (take l.row-index l.rows)
