@@ -1,5 +1,5 @@
 // Indexes over columns of a table.
-ghost use Rattle.std.specs.Prelude.{◌≡◌, [], Some, None, IfSome, OnOk, OnErr};
+ghost use Rattle.std.specs.Prelude.{◌≡◌, [], Some, None, All, Contains, IfSome, IsTrue, OnOk, OnErr};
 ghost use Rattle.std.specs.FinMap.{get, insert, remove};
 ghost use Rattle.hs_index.specs.Table.{Rows, IsIndexOf};
 ghost use Rattle.hs_keyed.specs.Kept.{AreOf};
@@ -59,6 +59,31 @@ pub(crate) fn index_over<'a>(indexes: &'a [KeyIndex], columns: &[u32]) -> Option
         }
     }
     None
+}
+
+/// The columns of the first index all of whose columns are among these.
+pub(crate) fn columns_among<'a>(indexes: &'a [KeyIndex], columns: &[u32]) -> Option<&'a [u32]>
+    ensures { IfSome result (λ found. All (Contains columns.now) found.now) }
+{
+    for each in indexes {
+        let own = each.columns.as_slice();
+        if are_among(own, columns) {
+            return Some(own);
+        }
+    }
+    None
+}
+
+// Whether all of the first columns are among the others.
+fn are_among(own: &[u32], columns: &[u32]) -> bool
+    ensures { IsTrue result → All (Contains columns.now) own.now }
+{
+    for column in own {
+        if !columns.contains(column) {
+            return false;
+        }
+    }
+    true
 }
 
 /// Puts a row that wasn't there under its keys. After an `Err` there are no indexes.

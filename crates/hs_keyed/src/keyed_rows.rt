@@ -1,5 +1,5 @@
 // The rows of a table.
-ghost use Rattle.std.specs.Prelude.{◌≡◌, map, IfOk, OnOk, OnErr};
+ghost use Rattle.std.specs.Prelude.{◌≡◌, map, All, Contains, IfOk, IfSome, OnOk, OnErr};
 ghost use Rattle.std.specs.FinMap.{empty, get, insert, remove};
 ghost use Rattle.std.specs.Option.{option_copied};
 ghost use Rattle.hs_sentences.specs.Asking.{any_row};
@@ -10,7 +10,7 @@ ghost use Rattle.hs_rows.specs.Numbers.{IsBehind, next_in};
 use crate::behind::row_behind;
 use crate::copying::copied;
 use crate::entries::{put_entry, take_entry};
-use crate::indexes::{KeyIndex, index_over};
+use crate::indexes::{KeyIndex, columns_among, index_over};
 use crate::row_test::{Carries, CarriesToo, RowTest};
 use crate::scan::{any_entry, has_another, index_of, numbers_in};
 use hs_base::{NoMemory, RowNo, RowNos};
@@ -114,6 +114,14 @@ impl KeyedRows {
         let made = index_of(self.alloc, &self.rows, columns)?;
         self.indexes.push(made)?;
         Ok(())
+    }
+
+    /// The columns of the first index all of whose columns are among these, in the index's order. With a key in them
+    /// `rows_with` looks at no row. Takes no memory.
+    pub fn index_among(&self, columns: &[u32]) -> Option<&[u32]>
+        ensures { IfSome result (λ found. All (Contains columns.now) found.now) }
+    {
+        columns_among(&self.indexes, columns)
     }
 
     /// Whether one of the rows passes a test. All rows are looked at until one does.

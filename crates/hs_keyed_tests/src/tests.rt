@@ -149,3 +149,21 @@ fn rows_come_in_the_order_of_their_numbers(rt: HostRuntime) -> Result<(), Fail> 
     assert_eq!(rt; copied.row_behind(Some(RowNo(4))), Some(RowNo(5)));
     Ok(())
 }
+
+// The columns of the first index among these, none where there is none.
+fn columns_among<'a>(rows: &'a KeyedRows, columns: &[u32]) -> &'a [u32] {
+    rows.index_among(columns).unwrap_or(&[])
+}
+
+#[test]
+fn the_first_index_among_columns_is_told(rt: HostRuntime) -> Result<(), Fail> {
+    let mut rows = KeyedRows::new(rt.alloc());
+    rows.add_index(&[3, 0])?;
+    rows.add_index(&[2])?;
+    rows.add_index(&[0])?;
+    assert_eq!(rt; columns_among(&rows, &[0, 1, 3]), [3, 0].as_slice());
+    assert_eq!(rt; columns_among(&rows, &[2, 0]), [2].as_slice());
+    assert_eq!(rt; columns_among(&rows, &[0, 1]), [0].as_slice());
+    assert!(rt; rows.index_among(&[1, 3]).is_none());
+    Ok(())
+}
