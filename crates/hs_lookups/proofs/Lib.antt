@@ -1,0 +1,5 @@
+pub mod Asked
+pub mod Equal
+pub mod Layers
+pub mod Needed
+pub mod NoFault

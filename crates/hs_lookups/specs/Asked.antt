@@ -1,5 +1,5 @@
 -- What a condition asks of the columns of a row.
-use Rattle.std.specs.Prelude.{◌≡◌, ℕ, Bool, false, not, ◌&&◌, List, [], ◌∷◌, Option, None, Some, Result, ⊤}
+use Rattle.std.specs.Prelude.{◌≡◌, ℕ, Bool, false, not, ◌&&◌, List, [], ◌∷◌, None, Some, Result, ⊤}
 use Rattle.std.specs.Ordering.{eq_by_cmp}
 use Rattle.hs_values.specs.declared.fault.EvalFault.{EvalFault}
 use Rattle.hs_values.specs.declared.value.Value.{Value}
@@ -17,12 +17,23 @@ pub record IsPassedOver (outcome : Result Value EvalFault) : Type 0 where
 abbrev pub are_equal : Value → Value → Bool
 are_equal a b = eq_by_cmp order_of a b && not (is_null a)
 
+-- a row has this value in a column, and the same one in two columns
+abbrev pub has_value : ℕ → Value → List Value → Bool
+has_value column value row = are_equal (value_at row column) value
+
+abbrev pub have_one_value : ℕ → ℕ → List Value → Bool
+have_one_value one other row = are_equal (value_at row one) (value_at row other)
+
+-- a column has this value in every row that isn't passed over
+abbrev pub AsksOne : Verdict → ℕ → Value → Type 0
+AsksOne verdict column value = (row : List Value) → are_equal (value_at row column) value ≡ false → IsPassedOver (verdict row)
+
 -- each of these columns has its value in every row that isn't passed over
 abbrev pub Asks : Verdict → List ℕ → List Value → Type 0
 Asks verdict [] values = ⊤
 Asks verdict (column ∷ columns) [] = ⊤
 Asks verdict (column ∷ columns) (value ∷ values) =
-    ((row : List Value) → are_equal (value_at row column) value ≡ false → IsPassedOver (verdict row)) × Asks verdict columns values
+    AsksOne verdict column value × Asks verdict columns values
 
 -- every row that isn't passed over has this key in these columns
 abbrev pub Narrows : Verdict → List ℕ → List Value → Type 0

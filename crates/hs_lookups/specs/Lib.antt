@@ -1,1 +1,4 @@
 pub mod Asked
+pub mod Conjuncts
+pub mod Operators
+pub mod Sure

@@ -2,8 +2,11 @@
 //! equal there. With these, rows that a condition can't choose needn't be looked at.
 #![tactic(auto)]
 
+mod conjuncts;
 mod equalities;
+mod operators;
 mod pairing;
+mod sure;
 
 pub use equalities::Equalities;
 pub use pairing::equal_columns;
