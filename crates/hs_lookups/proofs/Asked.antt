@@ -50,6 +50,7 @@ null_alike a b same = grown (is_null b) ∙ has_null-same (b ∷ []) (a ∷ []) 
   where
     turned : order_of b a ≡ Equal
     turned = equal_from (order_of b a) ((eq_by_cmp_equiv order_of_total).symm b a ∙ ap is_eq same)
+
     grown : (b : Bool) → b ≡ (b || false)
     grown true = refl
     grown false = refl

@@ -1,5 +1,5 @@
 -- What is made of parts that have no fault by operators that have none, has none.
-use Rattle.std.proofs.Common.{◌≡◌, ℕ, Bool, true, false, ◌&&◌, if◌then◌else◌, List, [], ◌∷◌, map, Option, Some, None, Ok, Err, refl, ap, ◌∙◌}
+use Rattle.std.proofs.Common.{◌≡◌, ℕ, ℤ, Bool, true, false, ◌&&◌, if◌then◌else◌, List, [], ◌∷◌, map, Option, Some, None, Ok, Err, refl, ap, ◌∙◌}
 use Rattle.hs_ast.specs.declared.expression.BinaryOperator.TheVariants as o
 use Rattle.hs_plan.specs.declared.expression.Expr.{Expr}
 use Rattle.hs_plan.specs.declared.expression.Expr as e
@@ -21,10 +21,11 @@ use Rattle.hs_expression.specs.Expression.{listed_at}
 use Rattle.hs_expression.specs.Forms.{between, found_in, greatest_tested, in_list, is_decided, is_false, item_tested, least_tested, reading_in, second_operand, three_operands, two_operands}
 use Rattle.hs_expression.specs.Kinds.{read_value, readable}
 use Rattle.hs_expression.specs.Logic.{disjunction, is_true, negated_if}
-use Rattle.hs_expression.specs.Numbers.{Outcome}
+use Rattle.hs_expression.specs.Numbers.{Outcome, minus_value}
 use Rattle.hs_expression.specs.Operators.{between_value, binary_value, equal_test, greatest_test, least_test, ternary_value, unary_value}
 use Rattle.hs_expression.specs.Surroundings.{Surroundings}
 use Rattle.hs_answer.specs.Answer.{item_in, value_in}
+use Rattle.hs_lookups.specs.Conjuncts.{Gives, negated}
 use Rattle.hs_lookups.specs.Operators.{is_readable, one_is_sure, three_are_sure, two_are_sure}
 use Rattle.hs_lookups.specs.Sure.{AreSure, IsSure}
 use Rattle.hs_lookups.proofs.Layers.{column_is, item_is, list_is, literal_is, one_is, text_is, three_are, two_are}
@@ -211,3 +212,10 @@ pub list_sure : (a : Expr) (negated : Bool) (list : List ListItem) → IsSure a 
 list_sure a negated list h k = record {
   no_fault = λ tables s. ap fault_of (list_is tables s a negated list) ∙ list_given negated (map (listed_at s) (map (item_in tables) list)) (value_in tables a s) (items_fine tables s list k) (h.no_fault tables s);
 }
+
+-- a minus before a literal
+pub negative_gives : (value : Value) (n : ℤ) → minus_value value ≡ Ok (v.Int n) → Gives (negated (e.Literal value)) (v.Int n)
+negative_gives value n h = record { is = λ tables s. one_is tables s u.Minus (e.Literal value) ∙ ap (λ o. o >>= unary_value u.Minus) (literal_is tables s value) ∙ h }
+
+pub given_sure : (a : Expr) (value : Value) → Gives a value → IsSure a
+given_sure a value h = record { no_fault = λ tables s. ap fault_of (h.is tables s) }

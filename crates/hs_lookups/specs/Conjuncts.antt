@@ -4,6 +4,7 @@ use Rattle.hs_ast.specs.declared.expression.BinaryOperator.TheVariants as o
 use Rattle.hs_plan.specs.declared.expression.Expr.{Expr}
 use Rattle.hs_plan.specs.declared.expression.Expr.TheVariants as e
 use Rattle.hs_plan.specs.declared.operator.Binary.TheVariants as b
+use Rattle.hs_plan.specs.declared.operator.Unary.TheVariants as u
 use Rattle.hs_values.specs.declared.value.Value.{Value}
 use Rattle.hs_changes.specs.Settings.{Maps}
 use Rattle.hs_rel.specs.Selection.{Verdict, is_true}
@@ -13,9 +14,12 @@ use Rattle.hs_answer.specs.Places.{value_over}
 use Rattle.hs_lookups.specs.Asked.{Asks, IsPassedOver}
 use Rattle.hs_lookups.specs.declared.equalities.Equalities.{Equalities}
 
--- a column of the row itself, an equality, and AND
+-- a column of the row itself, a minus, an equality, and AND
 abbrev pub own : ℕ → Expr
 own at = e.Column 0 at
+
+abbrev pub negated : Expr → Expr
+negated a = e.Unary u.Minus a
 
 abbrev pub equality : Expr → Expr → Expr
 equality a c = e.Binary (b.Operator o.Equal) a c

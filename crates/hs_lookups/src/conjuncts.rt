@@ -4,7 +4,8 @@ ghost use Rattle.hs_lookups.specs.Conjuncts.{equality, own, Gives, IsEquality, N
 ghost use Rattle.hs_lookups.specs.Asked.{has_value};
 
 use crate::equalities::Equalities;
-use crate::operators::{is_and, is_equality};
+use crate::negative::negative_of;
+use crate::operators::{is_and, is_equality, is_minus};
 use hs_plan::{Expr, Reading};
 use hs_values::Value;
 use std::alloc::AllocError;
@@ -19,7 +20,7 @@ pub(crate) fn own_column(e: &Expr) -> Option<u32>
     }
 }
 
-// The value of a literal, or of a text that is read.
+// The value of a literal, with a minus or without, or of a text that is read.
 fn known_value(e: &Expr) -> Result<Option<Value>, AllocError>
     ensures { IfOk result (λ found. IfSome found (Gives e.now)) }
 {
@@ -33,6 +34,10 @@ fn known_value(e: &Expr) -> Result<Option<Value>, AllocError>
             reading: Reading::Micros(micros),
             ..
         } => Ok(Some(Value::Micros(*micros))),
+        Expr::Unary(operator, a) if is_minus(*operator) => match negative_of(a.get()) {
+            Some(n) => Ok(Some(Value::Int(n))),
+            None => Ok(None),
+        },
         _ => Ok(None),
     }
 }

@@ -4,6 +4,7 @@
 
 mod conjuncts;
 mod equalities;
+mod negative;
 mod operators;
 mod pairing;
 mod sure;

@@ -2,6 +2,7 @@
 ghost use Rattle.std.specs.Prelude.{◌≡◌, IsTrue};
 ghost use Rattle.hs_ast.specs.declared.expression.BinaryOperator.TheVariants as o;
 ghost use Rattle.hs_plan.specs.declared.operator.Binary.TheVariants as b;
+ghost use Rattle.hs_plan.specs.declared.operator.Unary.TheVariants as u;
 ghost use Rattle.hs_lookups.specs.Operators as spec;
 
 use hs_ast::BinaryOperator;
@@ -66,6 +67,12 @@ fn is_no_reckoning(operator: BinaryOperator) -> bool
         | BinaryOperator::GreaterOrEqual
         | BinaryOperator::Concatenate => true,
     }
+}
+
+pub(crate) fn is_minus(operator: Unary) -> bool
+    ensures { IsTrue result → operator ≡ u.Minus }
+{
+    matches!(operator, Unary::Minus)
 }
 
 pub(crate) fn is_and(operator: Binary) -> bool

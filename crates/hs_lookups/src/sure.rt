@@ -2,7 +2,8 @@
 ghost use Rattle.std.specs.Prelude.{IsTrue};
 ghost use Rattle.hs_lookups.specs.Sure.{AreSure, IsSure};
 
-use crate::operators::{is_readable, one_is_sure, three_are_sure, two_are_sure};
+use crate::negative::is_sure_with_minus;
+use crate::operators::{is_minus, is_readable, one_is_sure, three_are_sure, two_are_sure};
 use hs_plan::{Expr, ListItem};
 
 /// Whether it is sure that an expression has no fault, wherever it stands and whatever rows the tables have. It isn't where
@@ -14,6 +15,7 @@ pub(crate) fn is_sure(e: &Expr) -> bool
     match e {
         Expr::Literal(_) | Expr::Column { .. } => true,
         Expr::ReadText { reading, .. } => is_readable(Some(*reading)),
+        Expr::Unary(operator, a) if is_minus(*operator) => is_sure_with_minus(a.get()),
         Expr::Unary(operator, a) => one_is_sure(*operator) && is_sure(a.get()),
         Expr::Binary(operator, a, b) => {
             two_are_sure(*operator) && is_sure(a.get()) && is_sure(b.get())

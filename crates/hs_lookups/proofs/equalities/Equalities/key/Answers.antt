@@ -18,12 +18,12 @@ loop-column-preserved c =
     let before = c.loop-column.invariant in
     let pushed : c.push.new.self.items ≡ c.loop-column.key.items ++ value ∷ [] = c.in_ok-push-in-Some.ensures.items in
     record {
-  long = ap length pushed ∙ length_push c.loop-column.key.items value ∙ ap (λ n. n + 1) before.long;
-  asked = λ verdict asked.
-      subst (Asks verdict columns) (sym pushed)
-      (asked_next verdict columns c.loop-column.key.items column value (omega arith) (ap (λ n. get_or columns n 0) (sym before.long)) (before.asked verdict asked)
-      (subst (AsksOne verdict column) (sym c.in_ok-copy-in-Some.ensures) (c.in-Some.ensures verdict asked)));
-}
+      long = ap length pushed ∙ length_push c.loop-column.key.items value ∙ ap (λ n. n + 1) before.long;
+      asked = λ verdict asked.
+          subst (Asks verdict columns) (sym pushed)
+          (asked_next verdict columns c.loop-column.key.items column value (omega arith) (ap (λ n. get_or columns n 0) (sym before.long)) (before.asked verdict asked)
+          (subst (AsksOne verdict column) (sym c.in_ok-copy-in-Some.ensures) (c.in-Some.ensures verdict asked)));
+    }
 
 pub returns : goal.returns
 returns c = λ verdict asked.

@@ -12,10 +12,10 @@ returns c = λ tables outer.
     let verdict = value_over (value_in tables c.args.condition.now) outer in
     let none : Equalities = record { columns = c.new.result; values = c.new-2.result } in
     elim c.if-is_sure.branch [
-    | then-is_sure+in_ok-take_in w ↦
-        subst (λ (all : Equalities). Asks verdict all.columns.items all.values) (sym w.all-is)
-        (all_asked c.args.condition.now none w.take_in.new.all (c.is_sure.ensures w.if-is_sure.true) c.new.ensures.items c.new-2.ensures w.in_ok-take_in.ensures tables outer)
-    | else-is_sure w ↦
-        subst (λ (all : Equalities). Asks verdict all.columns.items all.values) (sym w.all-is)
-        (none_asked verdict none.columns.items none.values c.new.ensures.items)
+      | then-is_sure+in_ok-take_in w ↦
+          subst (λ (all : Equalities). Asks verdict all.columns.items all.values) (sym w.all-is)
+          (all_asked c.args.condition.now none w.take_in.new.all (c.is_sure.ensures w.if-is_sure.true) c.new.ensures.items c.new-2.ensures w.in_ok-take_in.ensures tables outer)
+      | else-is_sure w ↦
+          subst (λ (all : Equalities). Asks verdict all.columns.items all.values) (sym w.all-is)
+          (none_asked verdict none.columns.items none.values c.new.ensures.items)
     ]

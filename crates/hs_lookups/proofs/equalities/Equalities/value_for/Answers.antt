@@ -15,6 +15,6 @@ returns-then-each-column c = λ verdict asked.
     subst (λ n. AsksOne verdict n c.in-Some.value.now) c.if-each-column.true both.0
 
 pub loop-each-preserved : goal.loop-each-preserved
-loop-each-preserved c = λ verdict asked. 
+loop-each-preserved c = λ verdict asked.
     let both = asked_first verdict c.loop-each.each-iterator.a.rest.now c.next.new.self.a.rest.now c.loop-each.each-iterator.b.rest.now c.next.new.self.b.rest.now c.in-Some.each.now c.in-Some.value.now c.in-Some.ensures.steps.0 c.in-Some.ensures.steps.1 (c.loop-each.invariant verdict asked) in
     both.1
