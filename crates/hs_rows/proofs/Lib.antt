@@ -1,3 +1,4 @@
 pub mod AllCopied
+pub mod Keys
 pub mod Looking
 pub mod Numbers

@@ -1,9 +1,10 @@
--- The rows of a table from a number on.
-use Rattle.std.specs.Prelude.{ℕ, suc, ◌≤◌, Bool, if◌then◌else◌, nat_lt, is_some, List, [], ◌∷◌, map, Option, Some, None, ⊤}
+-- The rows of a table by their numbers: from a number on, and those that have a key.
+use Rattle.std.specs.Prelude.{ℕ, suc, ◌≤◌, Bool, if◌then◌else◌, nat_lt, is_some, List, [], ◌∷◌, filter, map, Option, Some, None, ⊤}
 use Rattle.std.specs.FinMap.{entries, get}
+use Rattle.std.specs.List.{filter_map}
 use Rattle.hs_base.specs.declared.numbers.RowNo.{RowNo}
 use Rattle.hs_values.specs.declared.value.Value.{Value}
-use Rattle.hs_index.specs.Table.{Rows}
+use Rattle.hs_index.specs.Table.{Rows, has_key}
 
 -- the least number behind a row, or the least of all
 abbrev pub start : Option RowNo → ℕ
@@ -36,3 +37,15 @@ IsBehind after (Some row) = start after ≤ row.0
 -- the rows from a number on, in the order of their numbers
 unfoldable pub rows_from : Rows → ℕ → List (List Value)
 rows_from rows n = map (λ e. e.1) (from_number n (entries rows))
+
+-- the rows of these numbers, in this order, without those that aren't there
+abbrev pub rows_numbered : Rows → List ℕ → List (List Value)
+rows_numbered rows numbers = filter_map (row_in rows) numbers
+
+-- the numbers of those of these rows that have a key
+abbrev pub numbers_among : List ℕ → List Value → List (ℕ × List Value) → List ℕ
+numbers_among columns key rows = map (λ e. e.0) (filter (λ e. has_key columns key (Some e.1)) rows)
+
+-- the numbers of the rows that have a key, in ascending order
+abbrev pub numbers_with : List ℕ → List Value → Rows → List ℕ
+numbers_with columns key rows = numbers_among columns key (entries rows)

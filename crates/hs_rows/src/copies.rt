@@ -1,15 +1,16 @@
 // Copies of rows.
-ghost use Rattle.std.specs.Prelude.{◌≡◌, IfOk};
+ghost use Rattle.std.specs.Prelude.{◌≡◌, map, IfOk};
 ghost use Rattle.std.specs.FinMap.{values};
 ghost use Rattle.hs_expression.specs.Surroundings.{row_seen};
 ghost use Rattle.hs_rel.specs.Outcome.{IsNoVerdict, stop_of};
 ghost use Rattle.hs_rows.specs.Copies.{with_copy};
 ghost use Rattle.hs_rows.specs.Looks.{Looks};
+ghost use Rattle.hs_rows.specs.Numbers.{rows_numbered};
 
 use crate::rows::Rows;
 use crate::scanning::scan;
 use crate::takes::Takes;
-use hs_base::TableNo;
+use hs_base::{RowNos, TableNo};
 use hs_expression::RowRef;
 use hs_rel::EvalStop;
 use hs_values::{Row, RowList};
@@ -54,4 +55,26 @@ pub fn all_rows<R: Rows>(alloc: Global, rows: &mut R, table: TableNo) -> Result<
     };
     scan(rows, table, &mut copies)?;
     Ok(copies.rows)
+}
+
+/// Copies of the rows of a table that have these numbers, in this order; a number without a row is passed over. An `Err`
+/// is a stop of the rows as they gave it, or want of memory.
+pub fn numbered_rows<R: Rows>(
+    alloc: Global,
+    rows: &mut R,
+    table: TableNo,
+    numbers: &RowNos,
+) -> Result<RowList, EvalStop>
+    requires { R.ready rows.old }
+    ensures rows { R.tells rows.old → IfOk result (λ copies. copies ≡ rows_numbered (R.tables rows.old table.0) (map (λ r. r.0) numbers.now)) }
+    ensures err { IsNoVerdict result }
+    ensures looks { Looks R.Rows (stop_of result) rows.old rows.new }
+{
+    let mut copies = RowList::new(alloc);
+    for number in numbers.as_slice() {
+        if rows.bring(table, *number)? {
+            copies.push(copied(rows.look(table, *number))?)?;
+        }
+    }
+    Ok(copies)
 }

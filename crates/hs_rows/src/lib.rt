@@ -7,7 +7,7 @@ mod rows;
 mod scanning;
 mod takes;
 
-pub use copies::{all_rows, copied};
+pub use copies::{all_rows, copied, numbered_rows};
 pub use rows::Rows;
 pub use scanning::scan;
 pub use takes::Takes;

@@ -1,14 +1,15 @@
 // What keeps rows of tables.
-ghost use Rattle.std.specs.Prelude.{◌≡◌, ℕ, List, Option, Some, None, Ok, true, IfOk};
+ghost use Rattle.std.specs.Prelude.{◌≡◌, ℕ, List, map, Option, Some, None, Ok, true, All, Contains, IfOk, IfSome};
 ghost use Rattle.hs_changes.specs.Settings.{Maps};
 ghost use Rattle.hs_expression.specs.Surroundings.{row_seen};
 ghost use Rattle.hs_rel.specs.declared.stop.StopKind.{StopKind};
 ghost use Rattle.hs_rel.specs.Outcome.{IsCaused, IsNoVerdict, stop_of};
-ghost use Rattle.hs_rows.specs.Numbers.{IsBehind, has_row, next_in, row_in};
+ghost use Rattle.hs_rows.specs.Numbers.{IsBehind, has_row, next_in, numbers_with, row_in};
 
-use hs_base::{RowNo, TableNo};
+use hs_base::{NoMemory, RowNo, RowNos, TableNo};
 use hs_expression::RowRef;
 use hs_rel::EvalStop;
+use hs_values::Row;
 
 /// The rows of the tables of one state, as something keeps them, which may be a store that reads a file meanwhile.
 pub trait Rows {
@@ -60,6 +61,18 @@ pub trait Rows {
         requires ready { ready self.now }
         requires brought { brought self.now ≡ Some (table.0, row.0) }
         ensures { tells self.now → row_in (tables self.now table.0) row.0 ≡ Some (row_seen result) };
+
+    /// The columns of an index of the table that are all among these, in the index's order. Where there is one,
+    /// `rows_with` of them looks at no other rows. Takes no memory.
+    fn index_among(&self, table: TableNo, columns: &[u32]) -> Option<&[u32]>
+        requires { ready self.now }
+        ensures { IfSome result (λ found. All (Contains columns.now) found.now) };
+
+    /// The numbers of the rows that have this key in these columns, in ascending order. A key with a NULL is no key.
+    /// An `Err` is want of memory.
+    fn rows_with(&self, table: TableNo, columns: &[u32], key: &Row) -> Result<RowNos, NoMemory>
+        requires { ready self.now }
+        ensures { tells self.now → IfOk result (λ found. map (λ r. r.0) found ≡ numbers_with columns.now key.now (tables self.now table.0)) };
 
     ghost not_looked: { (a : Self) → looked None a a };
 
