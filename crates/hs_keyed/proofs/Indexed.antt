@@ -1,10 +1,10 @@
 -- What an index says of the rows that have a key.
-use Rattle.std.proofs.Common.{◌≡◌, ◌↔◌, IsTrue, ℕ, Bool, true, false, not, ◌&&◌, ◌||◌, cond, List, [], ◌∷◌, map, filter, Option, Some, None, refl, sym, ap, subst, ◌∙◌, T}
+use Rattle.std.proofs.Common.{◌≡◌, ◌↔◌, IsTrue, ℕ, Bool, true, false, not, ◌&&◌, ◌||◌, cond, List, [], ◌∷◌, map, filter, Option, Some, None, refl, sym, ap, ◌∙◌, T}
 use Rattle.std.proofs.lemmas.Bool.{and_parts, and_from, or_right}
 use Rattle.std.proofs.lemmas.Cmp.{ranked}
 use Rattle.std.proofs.lemmas.Map.Lookups.{btree_set_from_contains, exact_unsigned}
 use Rattle.std.specs.BTreeSet.{BTreeSet}
-use Rattle.std.specs.Cmp.{nat_cmp_total, tied_itself}
+use Rattle.std.specs.Cmp.{nat_cmp_total}
 use Rattle.std.specs.FinMap.{entries, entries_sorted, get, is_sorted}
 use Rattle.std.specs.FinMap.Entries.{below_all}
 use Rattle.std.specs.List.{AllByRecursion, list_any}
@@ -20,7 +20,7 @@ use Rattle.hs_index.specs.Table.{Rows, has_key, IsIndexOf}
 use Rattle.hs_index.proofs.RowSets.{equal_from, row_itself}
 use Rattle.hs_sentences.specs.Asking.{Test, any_row}
 use Rattle.hs_sentences.proofs.Looking.{Found, any_row-found, any_row-from, same_tests}
-use Rattle.hs_keyed.specs.Found.{numbers_among, numbers_with}
+use Rattle.hs_rows.specs.Numbers.{numbers_among, numbers_with}
 use Rattle.hs_keyed.proofs.Stored.{Entries}
 
 same_number : (a b : RowNo) → is_row a b ≡ true → a.0 ≡ b.0

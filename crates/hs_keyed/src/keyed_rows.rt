@@ -4,8 +4,8 @@ ghost use Rattle.std.specs.FinMap.{empty, get, insert, remove};
 ghost use Rattle.std.specs.Option.{option_copied};
 ghost use Rattle.hs_sentences.specs.Asking.{any_row};
 ghost use Rattle.hs_sentences.specs.Sentences.{carries};
-ghost use Rattle.hs_keyed.specs.Found.{carries_too, numbers_with};
-ghost use Rattle.hs_rows.specs.Numbers.{IsBehind, next_in};
+ghost use Rattle.hs_keyed.specs.Found.{carries_too};
+ghost use Rattle.hs_rows.specs.Numbers.{IsBehind, next_in, numbers_with};
 
 use crate::behind::row_behind;
 use crate::copying::copied;

@@ -12,3 +12,4 @@ mod scan;
 pub use behind::row_behind;
 pub use keyed_rows::KeyedRows;
 pub use row_test::{Carries, CarriesToo, RowTest, has_key};
+pub use scan::numbers_in;

@@ -4,8 +4,8 @@ ghost use Rattle.std.specs.BTreeMap.{IsOrdered};
 ghost use Rattle.std.specs.List.{list_any};
 ghost use Rattle.std.specs.Ordering.{nat_cmp};
 ghost use Rattle.hs_index.specs.Rows.{rows_with};
-ghost use Rattle.hs_keyed.specs.Found.{numbers_among};
 ghost use Rattle.hs_keyed.specs.Kept.{rows_of, IsOf};
+ghost use Rattle.hs_rows.specs.Numbers.{numbers_with};
 
 use crate::indexes::KeyIndex;
 use crate::row_test::{RowTest, has_key};
@@ -33,15 +33,15 @@ pub(crate) fn any_entry<T: RowTest>(
     Ok(false)
 }
 
-/// The numbers of these rows that have a key.
-pub(crate) fn numbers_in(
+/// The numbers of those of these rows that have this key in these columns, in ascending order. A key with a NULL is no
+/// key. An `Err` is want of memory.
+pub fn numbers_in(
     alloc: Global,
     rows: &BTreeMap<u64, Row>,
     columns: &[u32],
     key: &Row,
 ) -> Result<RowNos, NoMemory>
-    ensures answer { IfOk result (λ found. map (λ r. r.0) found ≡ numbers_among columns.now key.now rows.now.entries) }
-    ensures ordered { IsOrdered nat_cmp rows.now }
+    ensures { IfOk result (λ found. map (λ r. r.0) found ≡ numbers_with columns.now key.now (rows_of rows.now.entries)) }
 {
     let mut found = RowNos::new(alloc);
     for (number, row) in rows {

@@ -6,7 +6,6 @@ use Rattle.std.specs.List.Sorted.{IsStrictlySortedBy}
 use Rattle.std.specs.Map.{keys_of}
 use Rattle.std.specs.Map.Iter.{deref_pair}
 use Rattle.std.specs.Ordering.{nat_cmp}
-use Rattle.hs_values.specs.declared.value.Value.{Value}
 use Rattle.hs_index.specs.Table.{Rows}
 use Rattle.hs_keyed.specs.Kept.{rows_of}
 use Rattle.hs_keyed.proofs.Stored.{Entries, new_number, rows_pushed}

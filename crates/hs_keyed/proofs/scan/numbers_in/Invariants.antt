@@ -1,5 +1,5 @@
 use Rattle.std.proofs.Common.{◌≡◌, ◌++◌, map}
-use Rattle.hs_keyed.specs.Found.{numbers_among}
+use Rattle.hs_rows.specs.Numbers.{numbers_among}
 use Rattle.hs_keyed.proofs.scan.numbers_in.Given as goal
 
 abbrev pub invariant-loop-number : goal.invariant-loop-number

@@ -3,10 +3,9 @@ use Rattle.std.proofs.lemmas.Result.{IfOk-weaker}
 use Rattle.hs_base.specs.declared.numbers.RowNo.{RowNo}
 use Rattle.hs_index.specs.RowSets.{IsAscending}
 use Rattle.hs_keyed.specs.declared.indexes.KeyIndex.{KeyIndex}
-use Rattle.hs_keyed.specs.Found.{numbers_among, numbers_with}
 use Rattle.hs_keyed.specs.Kept.{rows_of, AreOf}
 use Rattle.hs_keyed.proofs.Indexed.{index_numbers}
-use Rattle.hs_keyed.proofs.Stored.{entries-rows_of}
+use Rattle.hs_rows.specs.Numbers.{numbers_with}
 use Rattle.hs_keyed.proofs.keyed_rows.KeyedRows.rows_with.Goals as goal
 
 pub returns-in-Some : goal.returns-in-Some
@@ -22,7 +21,5 @@ returns-in-Some c =
 pub returns-in-None : goal.returns-in-None
 returns-in-None c =
     IfOk-weaker c.numbers_in.result _ _
-    (λ found same. same
-    ∙ ap (numbers_among c.args.columns.now c.args.key.now) (sym (entries-rows_of c.self.inside.rows.entries c.numbers_in.ensures.ordered))
-    ∙ ap (numbers_with c.args.columns.now c.args.key.now) c.self.view_is)
-    c.numbers_in.ensures.answer
+    (λ found same. same ∙ ap (numbers_with c.args.columns.now c.args.key.now) c.self.view_is)
+    c.numbers_in.ensures
