@@ -1,6 +1,6 @@
 -- Over copies a query has the same answer.
-use Rattle.std.proofs.Common.{◌≡◌, ℕ, zero, suc, ◌==◌, ◌<◌, Bool, true, false, cond, List, [], ◌∷◌, length, Ok, refl, sym, ap, subst, ◌∙◌, arith, inl, inr}
-use Rattle.std.proofs.lemmas.Bool.Decides.{eqb_tells, nat_tests}
+use Rattle.std.proofs.Common.{◌≡◌, zero, suc, Bool, true, false, cond, List, [], ◌∷◌, Ok, refl, sym, ap, ◌∙◌, arith}
+use Rattle.std.proofs.lemmas.Bool.Decides.{nat_tests}
 use Rattle.std.specs.FinMap.{values}
 use Rattle.std.specs.List.{Contains, list_any}
 use Rattle.hs_base.specs.declared.numbers.TableNo.{TableNo}
@@ -8,7 +8,6 @@ use Rattle.hs_plan.specs.declared.expression.Expr.{Expr, fold-Expr}
 use Rattle.hs_plan.specs.declared.expression.Expr.TheOpen.{Source-F}
 use Rattle.hs_plan.specs.declared.query.Query.{Query, fold-Query}
 use Rattle.hs_plan.specs.Named.{named, named_in_query}
-use Rattle.hs_values.specs.declared.value.Value.{Value}
 use Rattle.hs_changes.specs.Settings.{Maps}
 use Rattle.hs_expression.specs.Expression.{Arm, Listed, of_arm, of_expression, of_item}
 use Rattle.hs_expression.specs.Surroundings.{Answered, Valued}
@@ -21,7 +20,7 @@ use Rattle.hs_answer.specs.Order.{of_key, of_query, of_sort_key}
 use Rattle.hs_answer.specs.Selects.{of_select}
 use Rattle.hs_answer_laws.proofs.Framed.{query_framed, value_framed}
 use Rattle.hs_copied.specs.declared.table_copies.TableCopies.{TableCopies}
-use Rattle.hs_copied.specs.Copies.{Stand, has_number, maps_of, rows_held}
+use Rattle.hs_copied.specs.Copies.{Stand, has_number, maps_of}
 use Rattle.hs_copied.proofs.Held.{rows_stand}
 
 -- ---- states of the tables with the same rows

@@ -1,9 +1,9 @@
 -- Copies, one table after another.
-use Rattle.std.proofs.Common.{◌≡◌, ℕ, suc, ◌==◌, ◌<◌, Bool, true, false, cond, ◌||◌, T, List, [], ◌∷◌, ◌++◌, map, fold, inl, inr, refl, sym, ap, subst, ◌∙◌, arith}
+use Rattle.std.proofs.Common.{◌≡◌, ℕ, suc, ◌==◌, ◌<◌, Bool, true, false, cond, ◌||◌, T, List, [], ◌∷◌, ◌++◌, map, inl, inr, refl, sym, ap, subst, ◌∙◌, arith}
 use Rattle.std.proofs.lemmas.Bool.Decides.{eqb_tells, nat_tests}
 use Rattle.std.proofs.lemmas.List.Folds.{list_any-append}
 use Rattle.std.proofs.lemmas.List.Sums.{fold-append}
-use Rattle.std.specs.FinMap.{entries, entries-from_sorted, from_sorted, is_sorted, values}
+use Rattle.std.specs.FinMap.{entries-from_sorted, from_sorted, is_sorted, values}
 use Rattle.std.specs.List.{list_any}
 use Rattle.std.specs.Ordering.{nat_cmp}
 use Rattle.hs_base.specs.declared.numbers.TableNo.{TableNo}
@@ -13,7 +13,7 @@ use Rattle.hs_changes.specs.Settings.{Maps}
 use Rattle.hs_expression.specs.Surroundings.{Rows}
 use Rattle.hs_copied.specs.declared.table_copies.TableCopies.{TableCopies}
 use Rattle.hs_copied.specs.declared.table_copies.TableCopy.{TableCopy}
-use Rattle.hs_copied.specs.Copies.{has_number, is_held, maps_of, numbered, rows_held}
+use Rattle.hs_copied.specs.Copies.{has_number, is_held, maps_of, numbered, over, rows_held, with_rows}
 
 -- ---- the maps
 
@@ -32,11 +32,12 @@ rows_numbered : (n : ℕ) (rows : Rows) → map (λ (e : ℕ × List Value). e.1
 rows_numbered n [] = refl
 rows_numbered n (row ∷ rows) = ap (λ l. row ∷ l) (rows_numbered (suc n) rows)
 
+values_numbered : (rows : Rows) → values (from_sorted {R = nat_cmp} (numbered 0 rows)) ≡ rows
+values_numbered rows = ap (map (λ (e : ℕ × List Value). e.1)) (entries-from_sorted nat_cmp (numbered 0 rows) (numbers_rise 0 rows)) ∙ rows_numbered 0 rows
+
 pub rows_stand : (copies : TableCopies) (table : TableNo) → rows_in (maps_of copies) table ≡ rows_held copies.copies.items table.0
 unfolding maps_of
-rows_stand copies table =
-    let rows = rows_held copies.copies.items table.0 in
-    ap (map (λ (e : ℕ × List Value). e.1)) (entries-from_sorted nat_cmp (numbered 0 rows) (numbers_rise 0 rows)) ∙ rows_numbered 0 rows
+rows_stand copies table = values_numbered (rows_held copies.copies.items table.0)
 
 -- ---- one table more
 
@@ -67,6 +68,39 @@ right_more tables copies copy right is table held = elim (eqb_tells copy.table.0
       let before : is_held copies table ≡ true = grind (arith, held_more copies copy table, other.0, held) in
       rows_more copies copy table ∙ ap (λ b. cond b copy.rows (rows_held copies table)) other.0 ∙ right table before
 ]
+
+-- ---- tables of which some have the rows of copies
+
+pub right_first : (first : List TableCopy) (tables : Maps) → Right (over first tables) first
+right_first first tables table held =
+    let rows = rows_held first table in
+    sym (ap (λ b. values (cond b (from_sorted (numbered 0 rows)) (tables table))) held ∙ values_numbered rows)
+
+pub right_beside : (first copies : List TableCopy) (tables : Maps) (copy : TableCopy) → ((table : ℕ) → is_held first table ≡ true → is_held copies table ≡ true) → is_held copies copy.table.0 ≡ false → Right (over first tables) copies → copy.rows ≡ values (tables copy.table.0) → Right (over first tables) (copies ++ copy ∷ [])
+right_beside first copies tables copy firsts other right is =
+    right_more (over first tables) copies copy right (is ∙ by (is_held first copy.table.0) refl)
+  where
+    by : (b : Bool) → is_held first copy.table.0 ≡ b → values (tables copy.table.0) ≡ values (cond b (from_sorted (numbered 0 (rows_held first copy.table.0))) (tables copy.table.0))
+    by true held = absurd (let there = firsts copy.table.0 held in cc)
+    by false held = refl
+
+pub held_still : (first copies : List TableCopy) (copy : TableCopy) → ((table : ℕ) → is_held first table ≡ true → is_held copies table ≡ true) → (table : ℕ) → is_held first table ≡ true → is_held (copies ++ copy ∷ []) table ≡ true
+held_still first copies copy firsts table held = let m = held_more copies copy table in let h = firsts table held in grind (arith, m, h)
+
+-- the table that has other rows has these, and the others have their own
+pub rows_with : (tables : Maps) (table : TableNo) (rows : Rows) → rows_in (with_rows tables table rows) table ≡ rows
+unfolding with_rows
+rows_with tables table rows =
+    let itself : (table.0 == table.0) ≡ true = grind (arith, nat_tests) in
+    ap (λ b. values (cond (b || false) (from_sorted {R = nat_cmp} (numbered 0 (cond b rows []))) (tables table.0))) itself ∙ values_numbered rows
+
+pub others_with : (tables : Maps) (table : TableNo) (rows : Rows) (other : TableNo) → (other.0 == table.0) ≡ false → with_rows tables table rows other.0 ≡ tables other.0
+unfolding with_rows
+others_with tables table rows other apart =
+    let turned : (table.0 == other.0) ≡ false = grind (arith, nat_tests, apart) in
+    ap (λ b. cond (b || false) (from_sorted {R = nat_cmp} (numbered 0 (cond b rows []))) (tables other.0)) turned
+
+-- ---- tables that are held
 
 pub none_held : (copies : List TableCopy) → AllHeld [] copies
 none_held copies table h = absurd (cc)

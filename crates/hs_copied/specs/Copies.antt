@@ -26,6 +26,14 @@ numbered n (row ∷ rows) = (n, row) ∷ numbered (suc n) rows
 unfoldable pub maps_of : TableCopies → Maps
 maps_of copies table = from_sorted (numbered 0 (rows_held copies.copies.items table))
 
+-- tables of which those that are among copies have their rows, under any numbers
+abbrev pub over : List TableCopy → Maps → Maps
+over copies tables table = if is_held copies table then from_sorted (numbered 0 (rows_held copies table)) else tables table
+
+-- tables of which one has these rows
+unfoldable pub with_rows : Maps → TableNo → Rows → Maps
+with_rows tables table rows = over (record { table = table; rows = rows } ∷ []) tables
+
 -- whether a table has this number
 abbrev pub has_number : ℕ → TableNo → Bool
 has_number table named = named.0 == table
