@@ -3,3 +3,4 @@ pub mod Equal
 pub mod Layers
 pub mod Needed
 pub mod NoFault
+pub mod Selecting

@@ -13,8 +13,8 @@ use Rattle.hs_index.specs.Table.{Rows}
 use Rattle.hs_changes.proofs.Set.{ties_are_equal}
 use Rattle.hs_keyed.specs.Kept.{rows_of}
 use Rattle.hs_keyed.proofs.Ordered.{next-of}
-use Rattle.hs_keyed.proofs.Stored.{Entries, at, get-rows_of, remove-none}
-use Rattle.hs_rows.specs.Numbers.{next_in, row_in}
+use Rattle.hs_keyed.proofs.Stored.{Entries, at, entries-rows_of, get-rows_of, remove-none}
+use Rattle.hs_rows.specs.Numbers.{next_in, numbers_among, numbers_with, row_in}
 use Rattle.hs_plainrows.specs.Held.{Tables, is, rows_among, rows_at}
 
 -- ---- the rows of one table
@@ -30,6 +30,10 @@ no-row n = sym (get-empty nat_cmp n)
 pub no-next : (after : Option RowNo) → None ≡ next_in empty after
 unfolding IsStrictlySortedBy
 no-next after = next-of [] tt after
+
+pub no-numbers : (columns : List ℕ) (key : List Value) → [] ≡ numbers_with columns key empty
+unfolding IsStrictlySortedBy
+no-numbers columns key = sym (ap (numbers_among columns key) (entries-rows_of [] tt))
 
 -- ---- the rows of all tables
 

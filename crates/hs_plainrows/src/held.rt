@@ -1,14 +1,14 @@
 // The rows of tables that are held.
-ghost use Rattle.std.specs.Prelude.{◌≡◌, ℕ, ◌==◌, None, Some, IfOk, OnOk, OnErr, if◌then◌else◌};
+ghost use Rattle.std.specs.Prelude.{◌≡◌, ℕ, ◌==◌, map, None, Some, IfOk, OnOk, OnErr, if◌then◌else◌};
 ghost use Rattle.std.specs.FinMap.{empty, insert, remove};
 ghost use Rattle.std.specs.Option.{option_copied};
 ghost use Rattle.hs_changes.specs.Settings.{with_values};
 ghost use Rattle.hs_keyed.specs.Kept.{rows_of};
-ghost use Rattle.hs_rows.specs.Numbers.{next_in, row_in};
+ghost use Rattle.hs_rows.specs.Numbers.{next_in, numbers_with, row_in};
 ghost use Rattle.hs_plainrows.specs.Held.{rows_at};
 
-use hs_base::{NoMemory, RowNo, TableNo};
-use hs_keyed::row_behind;
+use hs_base::{NoMemory, RowNo, RowNos, TableNo};
+use hs_keyed::{numbers_in, row_behind};
 use hs_values::Row;
 use std::alloc::Global;
 use std::collections::BTreeMap;
@@ -44,6 +44,22 @@ pub(crate) fn next_at(
     match tables.get(&table.0) {
         Some(rows) => row_behind(rows, after),
         None => None,
+    }
+}
+
+/// The numbers of the rows of a table that have this key in these columns.
+pub(crate) fn numbers_at(
+    tables: &BTreeMap<u64, BTreeMap<u64, Row>>,
+    alloc: Global,
+    table: TableNo,
+    columns: &[u32],
+    key: &Row,
+) -> Result<RowNos, NoMemory>
+    ensures { IfOk result (λ found. map (λ r. r.0) found ≡ numbers_with columns.now key.now (rows_at tables.now.entries table.0)) }
+{
+    match tables.get(&table.0) {
+        Some(rows) => numbers_in(alloc, rows, columns, key),
+        None => Ok(RowNos::new(alloc)),
     }
 }
 

@@ -4,8 +4,8 @@ ghost use Rattle.std.specs.FinMap.{empty};
 ghost use Rattle.hs_changes.specs.Settings.{set_row};
 ghost use Rattle.hs_plainrows.specs.Ready.{tables_of, IsReady};
 
-use crate::held::{next_at, put_at, remove_at, row_at};
-use hs_base::{NoMemory, RowNo, TableNo};
+use crate::held::{next_at, numbers_at, put_at, remove_at, row_at};
+use hs_base::{NoMemory, RowNo, RowNos, TableNo};
 use hs_expression::RowRef;
 use hs_rel::EvalStop;
 use hs_rows::Rows;
@@ -14,7 +14,8 @@ use std::alloc::Global;
 use std::collections::BTreeMap;
 
 /// The rows of tables in memory, each by its table's number and its own. Nothing is read from elsewhere, so that no look
-/// at a row stops. Contracts see the rows of each table.
+/// at a row stops. No index is kept: all rows of a table are looked at for those that have a key. Contracts see the rows
+/// of each table.
 #[derive(Drop)]
 pub struct PlainRows {
     // Each table that had a row once.
@@ -101,5 +102,13 @@ impl Rows for PlainRows {
             Some(row) => RowRef::Held(row),
             None => unreachable!(),
         }
+    }
+
+    fn index_among(&self, _table: TableNo, _columns: &[u32]) -> Option<&[u32]> {
+        None
+    }
+
+    fn rows_with(&self, table: TableNo, columns: &[u32], key: &Row) -> Result<RowNos, NoMemory> {
+        numbers_at(&self.tables, self.alloc, table, columns, key)
     }
 }
