@@ -46,4 +46,8 @@ impl RowsBefore for HeldRows {
     fn rows_with(&self, table: TableNo, columns: &[u32], key: &Row) -> Result<RowNos, NoMemory> {
         self.rows(table).rows_with(columns, key)
     }
+
+    fn index_among(&self, table: TableNo, columns: &[u32]) -> Option<&[u32]> {
+        self.rows(table).index_among(columns)
+    }
 }

@@ -9,13 +9,15 @@ use Rattle.hs_values.specs.declared.fault.EvalFault.{EvalFault}
 use Rattle.hs_values.specs.declared.value.Value.{Value}
 use Rattle.hs_values.specs.declared.value.Value.TheVariants as v
 use Rattle.hs_values.specs.Outcome.{◌>>=◌}
-use Rattle.hs_index.specs.Table.{Rows}
+use Rattle.hs_index.specs.Table.{Rows, has_key}
+use Rattle.hs_lookups.specs.Asked.{IsPassedOver}
 use Rattle.hs_rel.specs.Selection.{Verdict, fault_of, is_true, least_fault, lesser_of, unless}
 use Rattle.hs_tentative.specs.NewRows.{Evaluate}
 use Rattle.hs_tentative.specs.Statements.{Numbered, for_which}
+use Rattle.hs_dml.specs.Candidates.{AreCandidates}
 use Rattle.hs_dml.specs.declared.chosen.Chosen.{Chosen}
 use Rattle.hs_dml.specs.Rows.{judged_at, none_chosen, number_of, numbers_for, with_verdict}
-use Rattle.hs_dml.proofs.Standing.{Entries, Rise, Stand, all_rise, all_stand, some_rise, some_stand}
+use Rattle.hs_dml.proofs.Standing.{Entries, Rise, Stand, all_rise, all_stand, numbers_are, some_rise, some_stand}
 
 abbrev with_more : Chosen → List RowNo → List EvalFault → Chosen
 with_more so_far rows faults = record { rows = so_far.rows ++ rows; fault = fold lesser_of so_far.fault faults }
@@ -43,11 +45,55 @@ numbered : (fault : Option EvalFault) (es : Entries) → unless fault (map numbe
 numbered None es = refl
 numbered (Some fault) es = refl
 
-pub chosen_told : (evaluate : Evaluate) (condition : Expr) (rows : Rows) (made : Chosen) (all : List RowNo) → all ≡ map number_of (entries rows) → made ≡ fold (judged_at rows (evaluate condition)) none_chosen all → unless made.fault made.rows ≡ numbers_for evaluate (Some condition) rows
-chosen_told evaluate condition rows made all is folded =
+-- ---- fewer rows, where those that are left out are passed over
+
+module _ (verdict : Verdict) (test : (ℕ × List Value) → Bool) (passed : (e : ℕ × List Value) → test e ≡ false → IsPassedOver (verdict e.1)) where
+  kept_fewer : (es : Entries) → kept verdict (filter test es) ≡ kept verdict es
+  kept_fewer [] = refl
+  kept_fewer (e ∷ es) = by (test e) refl ∙ ap (λ more. cond (is_true (verdict e.1)) (e ∷ more) more) (kept_fewer es)
+    where
+      by : (is : Bool) → test e ≡ is → kept verdict (cond is (e ∷ filter test es) (filter test es)) ≡ cond (is_true (verdict e.1)) (e ∷ kept verdict (filter test es)) (kept verdict (filter test es))
+      by true is = refl
+      by false is = ap (λ b. cond b (e ∷ kept verdict (filter test es)) (kept verdict (filter test es))) (sym (passed e is).not_true)
+
+  faults_fewer : (es : Entries) → faults verdict (filter test es) ≡ faults verdict es
+  faults_fewer [] = refl
+  faults_fewer (e ∷ es) = by (test e) refl ∙ ap (cons_option (fault_of (verdict e.1))) (faults_fewer es)
+    where
+      by : (is : Bool) → test e ≡ is → faults verdict (cond is (e ∷ filter test es) (filter test es)) ≡ cons_option (fault_of (verdict e.1)) (faults verdict (filter test es))
+      by true is = refl
+      by false is = ap (λ o. cons_option o (faults verdict (filter test es))) (sym (passed e is).no_fault)
+
+-- ---- the rows of a table at which a condition is looked at
+
+abbrev with_key : List ℕ → List Value → (ℕ × List Value) → Bool
+with_key columns key e = has_key columns key (Some e.1)
+
+pub chosen_told : (evaluate : Evaluate) (condition : Expr) (rows : Rows) (made : Chosen) (found : List RowNo) → AreCandidates (evaluate condition) rows found → made ≡ fold (judged_at rows (evaluate condition)) none_chosen found → unless made.fault made.rows ≡ numbers_for evaluate (Some condition) rows
+chosen_told evaluate condition rows made found are folded =
     let verdict : Verdict = evaluate condition in
-    ap (λ (m : Chosen). unless m.fault m.rows) (folded ∙ ap (fold (judged_at rows verdict) none_chosen) is ∙ all_judged verdict rows (entries rows) none_chosen (all_stand rows))
-    ∙ numbered (least_fault verdict (map (λ e. e.1) (entries rows))) (kept verdict (entries rows))
+    let test = with_key are.columns are.key in
+    let es = entries rows in
+    let passed : (e : ℕ × List Value) → test e ≡ false → IsPassedOver (verdict e.1) = λ e h. are.narrows e.1 h in
+    ap (λ (m : Chosen). unless m.fault m.rows)
+    (folded
+    ∙ ap (fold (judged_at rows verdict) none_chosen) (numbers_are (filter test es) found are.numbers)
+    ∙ all_judged verdict rows (filter test es) none_chosen (some_stand test rows es (all_stand rows))
+    ∙ (λ i. with_more none_chosen (map number_of (kept_fewer verdict test passed es i)) (faults_fewer verdict test passed es i)))
+    ∙ numbered (least_fault verdict (map (λ e. e.1) es)) (kept verdict es)
+
+-- all rows are such, as each has the key of no columns
+pub all_candidates : (verdict : Verdict) (rows : Rows) (found : List RowNo) → found ≡ map number_of (entries rows) → AreCandidates verdict rows found
+all_candidates verdict rows found is = record {
+  columns = [];
+  key = [];
+  narrows = λ row h. absurd (cc);
+  numbers = ap (map (λ r. r.0)) is ∙ told (entries rows);
+}
+  where
+    told : (es : Entries) → map (λ r. r.0) (map number_of es) ≡ map (λ e. e.0) (filter (with_key [] []) es)
+    told [] = refl
+    told (e ∷ es) = ap (λ ns. e.0 ∷ ns) (told es)
 
 -- ---- what is chosen stands, in ascending order
 

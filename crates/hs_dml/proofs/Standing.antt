@@ -127,10 +127,13 @@ over : (es : Entries) → map row_of (map (λ e. e.0) es) ≡ map number_of es
 over [] = refl
 over (e ∷ es) = ap (λ rs. number_of e ∷ rs) (over es)
 
+pub numbers_are : (es : Entries) (found : List RowNo) → map (λ r. r.0) found ≡ map (λ e. e.0) es → found ≡ map number_of es
+numbers_are es found is = sym (back found) ∙ ap (map row_of) is ∙ over es
+
 -- each row has the key of no columns
 all_keep : (es : Entries) → filter (λ e. has_key [] [] (Some e.1)) es ≡ es
 all_keep [] = refl
 all_keep (e ∷ es) = ap (λ rest. e ∷ rest) (all_keep es)
 
 pub all_numbers : (rows : Rows) (found : List RowNo) → map (λ r. r.0) found ≡ map (λ e. e.0) (filter (λ e. has_key [] [] (Some e.1)) (entries rows)) → found ≡ map number_of (entries rows)
-all_numbers rows found is = sym (back found) ∙ ap (map row_of) (is ∙ ap (map (λ e. e.0)) (all_keep (entries rows))) ∙ over (entries rows)
+all_numbers rows found is = numbers_are (entries rows) found (is ∙ ap (map (λ e. e.0)) (all_keep (entries rows)))

@@ -6,6 +6,7 @@ ghost use Rattle.hs_values.specs.declared.fault.EvalFault.{EvalFault as Fault};
 ghost use Rattle.hs_values.specs.declared.value.Value.{Value as SqlValue};
 ghost use Rattle.hs_values.specs.Outcome.{Gives};
 ghost use Rattle.hs_rel.specs.Selection as selection;
+ghost use Rattle.hs_dml.specs.Candidates.{AreCandidates};
 ghost use Rattle.hs_dml.specs.Rows as spec;
 
 use crate::faults::lesser_of;
@@ -73,7 +74,7 @@ fn judge<E: Evaluates, B: RowsBefore>(
     ensures { OnOk result (chosen.new ≡ spec.judged_at (B.maps before.now name.table.0) (E.evaluate evaluator.now condition.now) chosen.old name.row) }
 {
     match before.row(name) {
-        Some(row) => chosen.take(name.row, evaluator.value(condition, row.as_slice())),
+        Some(row) => chosen.take(name.row, evaluator.value(condition, row)),
         None => Ok(()),
     }
 }
@@ -109,6 +110,25 @@ fn all_rows<B: RowsBefore>(alloc: Global, before: &B, table: TableNo) -> Result<
     Ok(rows)
 }
 
+// Those that an index finds by the key that a condition asks for, else all. It has no fault for any other row, and chooses none.
+fn candidates<E: Evaluates, B: RowsBefore>(
+    alloc: Global,
+    evaluator: &E,
+    before: &B,
+    condition: &Expr,
+    table: TableNo,
+) -> Result<RowNos, NoMemory>
+    ensures { IfOk result (AreCandidates (E.evaluate evaluator.now condition.now) (B.maps before.now table.0)) }
+{
+    let asked = evaluator.equalities(alloc, condition)?;
+    if let Some(columns) = before.index_among(table, asked.columns()) {
+        if let Some(key) = asked.key(alloc, columns)? {
+            return before.rows_with(table, columns, &key);
+        }
+    }
+    all_rows(alloc, before, table)
+}
+
 // Those for which a condition is TRUE, and the least of its faults.
 fn chosen_for<E: Evaluates, B: RowsBefore>(
     alloc: Global,
@@ -119,7 +139,7 @@ fn chosen_for<E: Evaluates, B: RowsBefore>(
 ) -> Result<Chosen, NoMemory>
     ensures { IfOk result (λ made. selection.unless made.fault made.rows ≡ spec.numbers_for (E.evaluate evaluator.now) (Some condition.now) (B.maps before.now table.0)) }
 {
-    let rows = all_rows(alloc, before, table)?;
+    let rows = candidates(alloc, evaluator, before, condition, table)?;
     let mut made = Chosen::new(alloc);
     judge_all(
         &mut made,

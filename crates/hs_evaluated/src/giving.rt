@@ -83,6 +83,10 @@ impl RowsBefore for AsTheyAre<'_> {
     fn rows_with(&self, table: TableNo, columns: &[u32], key: &Row) -> Result<RowNos, NoMemory> {
         self.draft.rows(table).rows_with(columns, key)
     }
+
+    fn index_among(&self, table: TableNo, columns: &[u32]) -> Option<&[u32]> {
+        self.draft.rows(table).index_among(columns)
+    }
 }
 
 /// What a statement touches that gives this over the rows of a draft.

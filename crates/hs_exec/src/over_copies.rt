@@ -1,5 +1,4 @@
 // Expressions and queries over copies of tables.
-ghost use Rattle.std.specs.Prelude.{◌≡◌, IfOk};
 ghost use Rattle.hs_answer.specs.Answer.{evaluated};
 ghost use Rattle.hs_copied.specs.Copies.{maps_of};
 ghost use Rattle.hs_values.specs.Outcome.{Gives};
@@ -8,6 +7,7 @@ use hs_copied::TableCopies;
 use hs_dml::Answers;
 use hs_eval::{query_rows, value};
 use hs_expression::{Around, Place, RowRef};
+use hs_lookups::Equalities;
 use hs_newrows::Evaluates;
 use hs_plan::{Expr, Query};
 use hs_values::{EvalFault, Row, RowList, Value};
@@ -17,17 +17,6 @@ use std::alloc::{AllocError, Global};
 #[derive(Clone, Copy)]
 pub(crate) struct OverCopies<'a> {
     pub(crate) copies: &'a TableCopies,
-}
-
-// A row of these values.
-fn row_of(alloc: Global, values: &[Value]) -> Result<Row, AllocError>
-    ensures { IfOk result (λ row. row ≡ values.now) }
-{
-    let mut made = Vec::with_capacity(alloc, values.len())?;
-    for value in values {
-        made.push(value.copy()?)?;
-    }
-    Ok(Row::from_vec(made))
 }
 
 // What an expression gives over a row.
@@ -49,9 +38,12 @@ impl Evaluates for OverCopies<'_> {
 
     ghost evaluate = { λ s. evaluated (maps_of s.copies.now) };
 
-    fn value(&self, e: &Expr, row: &[Value]) -> Result<Value, EvalFault> {
-        let held = row_of(self.copies.allocator(), row)?;
-        value_over(e, self.copies, &held)
+    fn value(&self, e: &Expr, row: &Row) -> Result<Value, EvalFault> {
+        value_over(e, self.copies, row)
+    }
+
+    fn equalities(&self, alloc: Global, condition: &Expr) -> Result<Equalities, AllocError> {
+        Equalities::of(alloc, condition)
     }
 }
 

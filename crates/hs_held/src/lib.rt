@@ -24,4 +24,8 @@ impl RowsBefore for DraftRows<'_> {
     fn rows_with(&self, table: TableNo, columns: &[u32], key: &Row) -> Result<RowNos, NoMemory> {
         self.draft.rows(table).rows_with(columns, key)
     }
+
+    fn index_among(&self, table: TableNo, columns: &[u32]) -> Option<&[u32]> {
+        self.draft.rows(table).index_among(columns)
+    }
 }

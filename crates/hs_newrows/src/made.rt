@@ -24,7 +24,8 @@ pub fn inserted<E: Evaluates>(
 ) -> Result<Row, EvalFault>
     ensures { Gives result (spec.inserted (E.evaluate evaluator.now) columns.now places.now tuple.now) }
 {
-    let values = values_for(alloc, evaluator, columns, &[], places, tuple)?;
+    let none = Row::new(alloc);
+    let values = values_for(alloc, evaluator, columns, &none, places, tuple)?;
     Ok(with_columns(defaults(alloc, columns)?, places, values))
 }
 
@@ -53,7 +54,7 @@ pub fn updated<E: Evaluates>(
 ) -> Result<Row, EvalFault>
     ensures { Gives result (spec.updated (E.evaluate evaluator.now) columns.now assignments.now row.now) }
 {
-    let values = assigned_values(alloc, evaluator, columns, row.as_slice(), assignments)?;
+    let values = assigned_values(alloc, evaluator, columns, row, assignments)?;
     let places = places_of(alloc, assignments)?;
     Ok(with_columns(row.copy()?, places.as_slice(), values))
 }

@@ -15,7 +15,7 @@ use std::alloc::Global;
 pub fn value_for<E: Evaluates>(
     evaluator: &E,
     columns: &[Column],
-    row: &[Value],
+    row: &Row,
     place: u32,
     value: &NewValue,
 ) -> Result<Value, EvalFault>
@@ -34,7 +34,7 @@ pub fn values_for<E: Evaluates>(
     alloc: Global,
     evaluator: &E,
     columns: &[Column],
-    row: &[Value],
+    row: &Row,
     places: &[u32],
     tuple: &[NewValue],
 ) -> Result<Row, EvalFault>
@@ -57,7 +57,7 @@ pub fn assigned_values<E: Evaluates>(
     alloc: Global,
     evaluator: &E,
     columns: &[Column],
-    row: &[Value],
+    row: &Row,
     assignments: &[Assignment],
 ) -> Result<Row, EvalFault>
     ensures { Gives result (spec.values_for (E.evaluate evaluator.now) columns.now row.now (map (λ a. a.column) assignments.now) (map (λ a. a.value) assignments.now)) }

@@ -9,8 +9,7 @@ pub returns-in-Some : goal.returns-in-Some
 returns-in-Some g c =
     let verdict = g.E.Evaluates.evaluate c.args.evaluator.now c.args.condition.now in
     on_ok_weaker c.take.result
-    (λ is. is (verdict c.as_slice.result.now) c.value.ensures
-    ∙ ap (λ (values : List Value). with_verdict c.args.chosen.now c.args.name.row (verdict values)) c.as_slice.ensures
+    (λ is. is (verdict c.in-Some.row.now) c.value.ensures
     ∙ ap (λ (o : Option (List Value)). option_map_or (λ values. with_verdict c.args.chosen.now c.args.name.row (verdict values)) o c.args.chosen.now) c.in-Some.ensures)
     c.take.ensures
 
