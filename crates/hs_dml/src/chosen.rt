@@ -110,7 +110,8 @@ fn all_rows<B: RowsBefore>(alloc: Global, before: &B, table: TableNo) -> Result<
     Ok(rows)
 }
 
-// Those that an index finds by the key that a condition asks for, else all. It has no fault for any other row, and chooses none.
+// Those that an index finds by the key that a condition asks for, else all. The condition chooses no other row, and has no
+// fault for one.
 fn candidates<E: Evaluates, B: RowsBefore>(
     alloc: Global,
     evaluator: &E,
