@@ -1,11 +1,7 @@
 // A run over a host on which nothing fails.
 ghost use Rattle.std.specs.Prelude.{◌≡◌, ◌⊎◌, ℕ, ◌<◌, ◌≤◌, ◌^◌, List, None, length};
-ghost use Rattle.hs_engine.specs.Standing.{sql_meaning};
 ghost use Rattle.hs_host.specs.Files.{IsUnnamed};
-ghost use Rattle.hs_program.specs.Command.{database_of};
-ghost use Rattle.hs_program.specs.Damaged.{IsDamagedAt};
-ghost use Rattle.hs_program.specs.Meaning.{Opened};
-ghost use Rattle.hs_program.specs.Opening.{IsInvalid, IsOpened};
+ghost use Rattle.hs_top.specs.Log.{IsDamagedAt, IsInvalid, IsOpened, Opened, database_of, sql_meaning};
 
 use hs_host::{Host, Source};
 use hs_memhost::NeverFails;
