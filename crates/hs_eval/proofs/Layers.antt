@@ -31,62 +31,14 @@ use Rattle.hs_answer.specs.Layers.{Bodied, Joining, Keyed, QueryLayer, SelectLay
 use Rattle.hs_answer.specs.Order.{of_key, of_query, of_sort_key}
 use Rattle.hs_answer.specs.Selects.{of_select}
 use Rattle.hs_answer_laws.proofs.Layers.{body_gives, join_gives, key_gives, value_gives}
+pub use Rattle.hs_narrowed.proofs.Opened.{element_is, layer_with, query_is, query_layer, select_is, sort_key_is}
 use Rattle.hs_eval.specs.Parts.{aggregate_of}
 
 module _ (tables : Maps) where
-  -- ---- queries
-
-  abbrev pub query_layer : Query → QueryLayer
-  query_layer x = record { body = body_in tables (out-Query x).body; order_by = map (sort_key_in tables) (out-Query x).order_by; limit = (out-Query x).limit }
-
-  pub query_is : (x : Query) → query_in tables x ≡ of_query (query_layer x)
-  query_is x = fold_out-Query Valued Joining Keyed Bodied Sourced Arm Listed Answered Answered Bodied SortBy (List Valued) of_expression of_join of_key of_body (of_source tables) of_arm of_item of_element of_query of_select of_sort_key of_row x
-
-  pub sort_key_is : (x : SortKey) → sort_key_in tables x ≡ record { key = key_in tables (out-SortKey x).key; descending = (out-SortKey x).descending }
-  sort_key_is x = fold_out-SortKey Valued Joining Keyed Bodied Sourced Arm Listed Answered Answered Bodied SortBy (List Valued) of_expression of_join of_key of_body (of_source tables) of_arm of_item of_element of_query of_select of_sort_key of_row x
-
   pub row_is : (x : ValuesRow) → row_in tables x ≡ map (value_in tables) (out-ValuesRow x).values
   row_is x = fold_out-ValuesRow Valued Joining Keyed Bodied Sourced Arm Listed Answered Answered Bodied SortBy (List Valued) of_expression of_join of_key of_body (of_source tables) of_arm of_item of_element of_query of_select of_sort_key of_row x
 
-  pub element_is : (x : FromItem) → element_in tables x ≡ of_element (record { source = source_in tables (out-FromItem x).source; joins = map (join_in tables) (out-FromItem x).joins })
-  element_is x = fold_out-FromItem Valued Joining Keyed Bodied Sourced Arm Listed Answered Answered Bodied SortBy (List Valued) of_expression of_join of_key of_body (of_source tables) of_arm of_item of_element of_query of_select of_sort_key of_row x
-
-  -- ---- SELECT, whose parts may be left out
-
-  abbrev Open : Type 0
-  Open = Select-F Expr Join Key QueryBody Source CaseArm ListItem FromItem Query Select SortKey ValuesRow
-
-  abbrev told_of : Open → SelectLayer
-  told_of = map-Select Expr Join Key QueryBody Source CaseArm ListItem FromItem Query Select SortKey ValuesRow Valued Joining Keyed Bodied Sourced Arm Listed Answered Answered Bodied SortBy (List Valued) (value_in tables) (join_in tables) (key_in tables) (body_in tables) (source_in tables) (arm_in tables) (item_in tables) (element_in tables) (query_in tables) (select_in tables) (sort_key_in tables) (row_in tables)
-
-  abbrev layer_with : Bool → Bool → List Expr → List FromItem → Option Expr → List Expr → Option Expr → SelectLayer
-  layer_with distinct grouped items from condition group_by having = record {
-    distinct = distinct;
-    items = map (value_in tables) items;
-    from = map (element_in tables) from;
-    filter = option_map (value_in tables) condition;
-    grouped = grouped;
-    group_by = map (value_in tables) group_by;
-    having = option_map (value_in tables) having;
-  }
-
-  told_with : (distinct grouped : Bool) (items : List Expr) (from : List FromItem) (condition : Option Expr) (group_by : List Expr) (having : Option Expr)
-      → told_of (record { distinct = distinct; items = items; from = from; filter = condition; grouped = grouped; group_by = group_by; having = having }) ≡ layer_with distinct grouped items from condition group_by having
-  told_with distinct grouped items from None group_by None = refl
-  told_with distinct grouped items from None group_by (Some h) = refl
-  told_with distinct grouped items from (Some f) group_by None = refl
-  told_with distinct grouped items from (Some f) group_by (Some h) = refl
-
-  abbrev pub select_layer : Select → SelectLayer
-  select_layer x = layer_with (out-Select x).distinct (out-Select x).grouped (out-Select x).items (out-Select x).from (out-Select x).filter (out-Select x).group_by (out-Select x).having
-
-  told_is : (y : Open) → told_of y ≡ layer_with y.distinct y.grouped y.items y.from y.filter y.group_by y.having
-  told_is y = told_with y.distinct y.grouped y.items y.from y.filter y.group_by y.having
-
-  pub select_is : (x : Select) → select_in tables x ≡ of_select (select_layer x)
-  select_is x =
-      fold_out-Select Valued Joining Keyed Bodied Sourced Arm Listed Answered Answered Bodied SortBy (List Valued) of_expression of_join of_key of_body (of_source tables) of_arm of_item of_element of_query of_select of_sort_key of_row x
-      ∙ ap of_select (told_is (out-Select x))
+  -- ---- SELECT
 
   -- the same over lists that were read of it
   abbrev pub layer_over : Select → List FromItem → List Expr → List Expr → SelectLayer

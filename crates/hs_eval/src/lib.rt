@@ -1,6 +1,6 @@
-//! The values of expressions and the answers of queries, exactly as `hs_answer` defines them. The tables that a query names
-//! are copied, each once, and all is evaluated over the copies: one cycle of functions walks the trees, and what walks none
-//! stands beside it.
+//! The values of expressions and the answers of queries, exactly as `hs_answer` defines them. Of the tables that a query
+//! names what it needs is copied, each table once, and all is evaluated over the copies: one cycle of functions walks the
+//! trees, and what walks none stands beside it.
 #![tactic(auto)]
 
 mod bodies;

@@ -10,6 +10,7 @@ use crate::named::{expression_tables, query_tables};
 use crate::queries::query_rows;
 use hs_copied::{TableCopies, copies_of};
 use hs_expression::{Around, Place, RowRef};
+use hs_narrowed::copies_for;
 use hs_plan::{Expr, Query};
 use hs_rel::EvalStop;
 use hs_rows::Rows;
@@ -49,7 +50,7 @@ pub fn eval_query<R: Rows>(alloc: Global, query: &Query, rows: &mut R) -> Result
     ensures looks { Looks R.Rows (stop_of result) rows.old rows.new }
 {
     let named = query_tables(alloc, query)?;
-    let copies = copies_of(alloc, &named, rows)?;
+    let copies = copies_for(alloc, query, &named, rows)?;
     answer_over(query, &copies)
 }
 

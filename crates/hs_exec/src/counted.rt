@@ -1,8 +1,9 @@
 // Rows of which the looks are counted.
-use hs_base::{RowNo, Steps, TableNo};
+use hs_base::{NoMemory, RowNo, RowNos, Steps, TableNo};
 use hs_expression::RowRef;
 use hs_rel::EvalStop;
 use hs_rows::Rows;
+use hs_values::Row;
 
 /// Rows, and a count of the looks at them.
 #[derive(Drop)]
@@ -50,5 +51,13 @@ impl<R: Rows, L> Rows for Counted<'_, R, L> {
 
     fn look(&self, table: TableNo, row: RowNo) -> RowRef<'_> {
         self.rows.look(table, row)
+    }
+
+    fn index_among(&self, table: TableNo, columns: &[u32]) -> Option<&[u32]> {
+        self.rows.index_among(table, columns)
+    }
+
+    fn rows_with(&self, table: TableNo, columns: &[u32], key: &Row) -> Result<RowNos, NoMemory> {
+        self.rows.rows_with(table, columns, key)
     }
 }

@@ -5,7 +5,7 @@ ghost use Rattle.hs_plainrows.specs.Ready.{IsReady};
 use hs_base::{RowNo, TableNo};
 use hs_expression::RowRef;
 use hs_plainrows::PlainRows;
-use hs_rows::{Rows, all_rows};
+use hs_rows::{Rows, all_rows, numbered_rows};
 use hs_values::{Row, Value, ValueRef};
 use std::alloc::{AllocError, Global};
 use std::test::Fail;
@@ -87,5 +87,24 @@ fn all_rows_of_a_table_are_copied(rt: HostRuntime) -> Result<(), Fail> {
         Err(_) => 0,
     };
     assert_eq!(rt; count, 3);
+    Ok(())
+}
+
+#[test]
+fn rows_are_found_by_their_key(rt: HostRuntime) -> Result<(), Fail> {
+    let alloc = rt.alloc();
+    let mut rows = some_rows(alloc)?;
+    rows.put(TableNo(1), RowNo(7), row(alloc, 50)?)?;
+    let key = row(alloc, 50)?;
+    assert!(rt; rows.index_among(TableNo(1), &[0]).is_none());
+    let found = rows.rows_with(TableNo(1), &[0], &key)?;
+    assert_eq!(rt; found.as_slice(), [RowNo(5), RowNo(7)].as_slice());
+    assert!(rt; rows.rows_with(TableNo(3), &[0], &key)?.is_empty());
+    rows.remove(TableNo(1), RowNo(5));
+    let are_copied = match numbered_rows(alloc, &mut rows, TableNo(1), &found) {
+        Ok(copies) => copies.len() == 1,
+        Err(_) => false,
+    };
+    assert!(rt; are_copied);
     Ok(())
 }

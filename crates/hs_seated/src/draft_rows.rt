@@ -5,7 +5,7 @@ ghost use Rattle.hs_draft.specs.Drafted.{after};
 ghost use Rattle.hs_rows.specs.Numbers.{row_in};
 ghost use Rattle.hs_seated.specs.Looked.{looked_at, IsReady};
 
-use hs_base::{RowNo, TableNo};
+use hs_base::{NoMemory, RowNo, RowNos, TableNo};
 use hs_draft::Draft;
 use hs_expression::RowRef;
 use hs_rel::EvalStop;
@@ -94,5 +94,13 @@ impl Rows for DraftRows<'_> {
             Some(brought) => RowRef::Held(brought.values),
             None => unreachable!(),
         }
+    }
+
+    fn index_among(&self, table: TableNo, columns: &[u32]) -> Option<&[u32]> {
+        self.draft.rows(table).index_among(columns)
+    }
+
+    fn rows_with(&self, table: TableNo, columns: &[u32], key: &Row) -> Result<RowNos, NoMemory> {
+        self.draft.rows(table).rows_with(columns, key)
     }
 }

@@ -1,0 +1,4 @@
+pub mod OneTable
+pub mod Opened
+pub mod Serving
+pub mod Through
