@@ -28,7 +28,7 @@ with_table all one = if is_in all one.0 then all else all ++ one ∷ []
 abbrev pub with_child : List TableNo → Reference → List TableNo
 with_child all key = if may_act key then with_table all key.child else all
 
--- a table is one of these, and with each of them those whose foreign keys reference it and may act
-pub record IsFamily (keys : Keys) (table : TableNo) (all : List TableNo) : Type 0 where
-  pub own : is_in all table.0 ≡ true
-  pub children : (t : ℕ) (key : Reference) → is_in all t ≡ true → Contains (keys_on keys t) key → may_act key ≡ true → is_in all key.child.0 ≡ true
+-- a table is one of a set, and with each of it those whose foreign keys reference it and may act
+pub record IsFamily (keys : Keys) (table : TableNo) (set : ℕ → Bool) : Type 0 where
+  pub own : set table.0 ≡ true
+  pub children : (t : ℕ) (key : Reference) → set t ≡ true → Contains (keys_on keys t) key → may_act key ≡ true → set key.child.0 ≡ true

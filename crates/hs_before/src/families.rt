@@ -84,7 +84,7 @@ fn one(alloc: Global, table: TableNo) -> Result<Tables, NoMemory>
 /// whose foreign keys reference these, and so on, each once. It looks at each foreign key that references one of them once.
 /// An `Err` is want of memory.
 pub fn family(alloc: Global, keys: &References, table: TableNo) -> Result<Tables, NoMemory>
-    ensures { IfOk result (spec.IsFamily (keys_in keys.now) table) }
+    ensures { IfOk result (λ all. spec.IsFamily (keys_in keys.now) table (spec.is_in all)) }
 {
     let mut all = one(alloc, table)?;
     for at in 0..usize::MAX {

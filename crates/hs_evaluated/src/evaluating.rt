@@ -38,7 +38,7 @@ pub fn evaluate(
     ensures { (r : Reading) → TellsTables r → ListsAscending r → AreOf cat.now (keys_in keys.now) → (db : Database) (behind : List TheChange) → IsSeated db.rows behind seated.old → db.things ≡ cat.now → all_hold (view db behind) ≡ true → IfOk result (λ o. IsEvaluated r db behind plan.now o seated.new) }
 {
     let before = seated.len();
-    let given = given(alloc, cat, keys, seated, plan)?;
+    let given = given(alloc, cat, keys, &seated.rows.draft, plan)?;
     let foot = foot(alloc, cat, &seated.rows.draft, plan, &given)?;
     let violation = first_violated(alloc, cat, seated, changes_of(&given))?;
     let kept = is_kept(cat, &violation, &given);

@@ -19,7 +19,6 @@ use Rattle.hs_effects.specs.Effects.{around_in}
 use Rattle.hs_expression.specs.Outcomes.{all_or_least}
 use Rattle.hs_references.specs.Referenced.{AreOf}
 use Rattle.hs_tentative.specs.Statements.{for_which, name_in, of_delete, of_update, one_updated}
-use Rattle.hs_exec.specs.declared.answer.Answer.{Answer}
 use Rattle.hs_exec.specs.declared.answer.Answer.TheVariants as a
 use Rattle.hs_exec.specs.Executed.{executed}
 use Rattle.hs_exec.specs.Needed.{needs_keys}

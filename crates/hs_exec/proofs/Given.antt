@@ -1,5 +1,5 @@
 -- Answers that are made of others, and what kinds of statements give.
-use Rattle.std.proofs.Common.{◌≡◌, false, true, [], Option, Some, None, Result, Ok, Err, refl, subst, ap}
+use Rattle.std.proofs.Common.{◌≡◌, false, [], Result, Ok, Err, refl, subst, ap}
 use Rattle.std.specs.Option.{option_map_or}
 use Rattle.hs_plan.specs.declared.plan.Plan.{Plan}
 use Rattle.hs_plan.specs.declared.plan.Plan.TheVariants as p

@@ -1,11 +1,10 @@
 -- Over copies a writing statement makes the same changes.
-use Rattle.std.proofs.Common.{◌≡◌, inl, inr, ℕ, Bool, true, false, ◌||◌, List, [], ◌∷◌, ◌++◌, filter, map, Option, None, Some, Result, Ok, Err, refl, sym, ap, subst, ◌∙◌, arith}
+use Rattle.std.proofs.Common.{◌≡◌, inl, inr, ℕ, Bool, true, List, [], ◌∷◌, ◌++◌, filter, map, Option, None, Some, Result, Ok, Err, refl, sym, ap, subst, ◌∙◌, arith}
 use Rattle.std.specs.FinMap.{entries}
-use Rattle.std.specs.List.{Contains, list_any}
+use Rattle.std.specs.List.{Contains}
 use Rattle.std.proofs.lemmas.List.Folds.{list_any-append}
 use Rattle.hs_base.specs.declared.numbers.RowName.{RowName}
 use Rattle.hs_base.specs.declared.numbers.TableNo.{TableNo}
-use Rattle.hs_plan.specs.declared.change.Change.{Change}
 use Rattle.hs_plan.specs.declared.change.Change.TheVariants as change
 use Rattle.hs_plan.specs.declared.definition.Column.{Column}
 use Rattle.hs_plan.specs.declared.expression.Expr.{Expr}
@@ -38,13 +37,13 @@ use Rattle.hs_answer.specs.Answer.{answer, evaluated}
 use Rattle.hs_answer.specs.Places.{over_row}
 use Rattle.hs_answer_laws.proofs.Groups.{from_map}
 use Rattle.hs_answer_laws.proofs.Outcomes.{all_given, source_of}
-use Rattle.hs_before.specs.Family.{is_in, may_act}
+use Rattle.hs_before.specs.Family.{may_act}
 use Rattle.hs_copied.specs.declared.table_copies.TableCopies.{TableCopies}
 use Rattle.hs_copied.specs.Copies.{Stand, has_number, maps_of}
 use Rattle.hs_copied.proofs.Answering.{copies_answer, copies_evaluate}
 use Rattle.hs_dml.specs.Told.{around_of, columns_in, tentative}
 use Rattle.hs_effects.specs.Effects.{AgreeOn, around_in}
-use Rattle.hs_exec.specs.Needed.{AreChanged}
+use Rattle.hs_exec.specs.Before.{AreBefore}
 use Rattle.hs_exec.proofs.Worked.{AreIn, actions_agree}
 
 module _ (tables : Maps) (copies : TableCopies) where
@@ -201,11 +200,11 @@ module _ (tables : Maps) (copies : TableCopies) where
     -- ---- any of them
 
     -- the rows of tables are those before the statement
-    pub statement_same : (plan : Plan) (changed : List TableNo) → Copied (named_in_plan plan) → AreChanged keys plan changed → AgreeOn before tables (is_in changed) → tentative over plan ≡ tentative inside plan
-    statement_same (p.Query query) changed names are agree = refl
-    statement_same (p.Insert insert) changed names are agree = insert_same insert names
-    statement_same (p.Update update) changed names are agree = update_same (is_in changed) are.children agree update are.own names
-    statement_same (p.Delete delete) changed names are agree = delete_same (is_in changed) are.children agree delete are.own names
-    statement_same (p.LockTable all) changed names are agree = refl
-    statement_same (p.Define definition) changed names are agree = refl
-    statement_same (p.Session statement) changed names are agree = refl
+    pub statement_same : (plan : Plan) → Copied (named_in_plan plan) → AreBefore tables keys plan before → tentative over plan ≡ tentative inside plan
+    statement_same (p.Query query) names b = refl
+    statement_same (p.Insert insert) names b = insert_same insert names
+    statement_same (p.Update update) names b = update_same b.changed b.are.children b.agree update b.are.own names
+    statement_same (p.Delete delete) names b = delete_same b.changed b.are.children b.agree delete b.are.own names
+    statement_same (p.LockTable all) names b = refl
+    statement_same (p.Define definition) names b = refl
+    statement_same (p.Session statement) names b = refl

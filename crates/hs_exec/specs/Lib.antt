@@ -1,3 +1,3 @@
+pub mod Before
 pub mod Executed
 pub mod Needed
-pub mod Read

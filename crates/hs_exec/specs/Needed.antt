@@ -1,6 +1,5 @@
 -- What kinds of statements need.
-use Rattle.std.specs.Prelude.{Bool, true, false, List, Option, Some, None, ⊤}
-use Rattle.hs_base.specs.declared.numbers.TableNo.{TableNo}
+use Rattle.std.specs.Prelude.{ℕ, Bool, true, false, Option, Some, None, ⊤}
 use Rattle.hs_plan.specs.declared.plan.Plan.{Plan}
 use Rattle.hs_plan.specs.declared.plan.Plan.TheVariants as p
 use Rattle.hs_plan.specs.declared.query.Query.{Query}
@@ -26,7 +25,7 @@ needs_keys (p.Delete delete) = true
 needs_keys plan = false
 
 -- these are the table that an UPDATE or a DELETE changes, and those whose rows actions look at
-abbrev pub AreChanged : Keys → Plan → List TableNo → Type 0
-AreChanged keys (p.Update update) tables = IsFamily keys update.table tables
-AreChanged keys (p.Delete delete) tables = IsFamily keys delete.table tables
-AreChanged keys plan tables = ⊤
+abbrev pub AreChanged : Keys → Plan → (ℕ → Bool) → Type 0
+AreChanged keys (p.Update update) set = IsFamily keys update.table set
+AreChanged keys (p.Delete delete) set = IsFamily keys delete.table set
+AreChanged keys plan set = ⊤

@@ -9,14 +9,17 @@ ghost use Rattle.hs_actions.specs.Referencing.{Keys};
 ghost use Rattle.hs_references.specs.Referenced.{AreOf};
 ghost use Rattle.hs_rel.specs.Outcome.{Answers, IsMemoryAlone, stop_of};
 ghost use Rattle.hs_rows.specs.Looks.{Looks};
+ghost use Rattle.hs_exec.specs.Before.{AreBefore};
 ghost use Rattle.hs_exec.specs.Executed.{changes_answered, executed, rows_answered};
 ghost use Rattle.hs_exec.specs.Needed as spec;
 
 use crate::answer::Answer;
 use crate::counted::Counted;
+use crate::reads::read_before;
 use crate::writing::changes_of;
 use hs_acting::References;
 use hs_base::{NoMemory, Steps};
+use hs_cascade::RowsBefore;
 use hs_eval::eval_query;
 use hs_plan::{Changes, Plan, Query};
 use hs_references::all_references;
@@ -65,40 +68,62 @@ fn query_of(plan: &Plan) -> Option<&Query>
     }
 }
 
-// The same, whose looks are counted by the rows.
-fn execute_over<R: Rows>(
+// What a statement gives, where looks are counted by the rows.
+fn execute_over<R: Rows, B: RowsBefore>(
     alloc: Global,
     cat: &Catalog,
     keys: &References,
     rows: &mut R,
+    before: &B,
     plan: &Plan,
 ) -> Result<Answer, EvalStop>
     requires { R.ready rows.old }
-    ensures answer { R.tells rows.old → Answers (executed (R.tables rows.old) cat.now (keys_in keys.now) plan.now) result }
+    ensures answer { R.tells rows.old → AreBefore (R.tables rows.old) (keys_in keys.now) plan.now (B.maps before.now) → Answers (executed (R.tables rows.old) cat.now (keys_in keys.now) plan.now) result }
     ensures looks { Looks R.Rows (stop_of result) rows.old rows.new }
 {
     match query_of(plan) {
         Some(query) => rows_told(eval_query(alloc, query, rows)),
-        None => changes_told(changes_of(alloc, cat, keys, rows, plan)),
+        None => changes_told(changes_of(alloc, cat, keys, rows, before, plan)),
     }
 }
 
-/// What a bound statement gives over these rows, as `execute`, where the foreign keys of the catalogue are at hand. They are
-/// made once for a catalogue, by `hs_references`.
-pub fn execute_with<R: Rows, L>(
+/// What a bound statement gives over these rows, as `execute`, where the foreign keys of the catalogue are at hand, which
+/// `hs_references` makes once for a catalogue, and where `before` has the same rows by their numbers and keys. An UPDATE or a
+/// DELETE takes the rows that it changes, and those at which actions look, from there, where they lie. So no table is copied
+/// but those that expressions and queries name. A look at rows of `before` is no step.
+pub fn execute_with<R: Rows, B: RowsBefore, L>(
+    alloc: Global,
+    cat: &Catalog,
+    keys: &References,
+    rows: &mut R,
+    before: &B,
+    plan: &Plan,
+    steps: &mut Steps<L>,
+) -> Result<Answer, EvalStop>
+    requires { R.ready rows.old }
+    ensures answer { R.tells rows.old → B.maps before.now ≡ R.tables rows.old → Answers (executed (R.tables rows.old) cat.now (keys_in keys.now) plan.now) result }
+    ensures looks { Looks R.Rows (stop_of result) rows.old rows.new }
+{
+    let mut counted = Counted { rows, steps };
+    execute_over(alloc, cat, keys, &mut counted, before, plan)
+}
+
+// ---- rows that are read first
+
+// The same over rows that must be read first.
+fn execute_read<R: Rows>(
     alloc: Global,
     cat: &Catalog,
     keys: &References,
     rows: &mut R,
     plan: &Plan,
-    steps: &mut Steps<L>,
 ) -> Result<Answer, EvalStop>
     requires { R.ready rows.old }
     ensures answer { R.tells rows.old → Answers (executed (R.tables rows.old) cat.now (keys_in keys.now) plan.now) result }
     ensures looks { Looks R.Rows (stop_of result) rows.old rows.new }
 {
-    let mut counted = Counted { rows, steps };
-    execute_over(alloc, cat, keys, &mut counted, plan)
+    let before = read_before(alloc, keys, rows, plan)?;
+    execute_over(alloc, cat, keys, rows, &before, plan)
 }
 
 // ---- foreign keys
@@ -141,9 +166,9 @@ fn keys_for(cat: &Catalog, plan: &Plan) -> Result<References, EvalStop>
 /// What a statement that is bound over a catalogue gives over these rows: the rows of a query, or the changes that an
 /// INSERT, an UPDATE or a DELETE makes, with those of foreign key actions; every other statement makes no change of rows.
 /// Each row that is looked at is a step. The tables that the statement needs are read once each, and it is evaluated over
-/// copies. An UPDATE or a DELETE takes all foreign keys of the catalogue together first, which `execute_with` doesn't. An
-/// `Err` is the fault of the first part that has one, the least over its rows, a stop of the rows as they gave it, or want of
-/// memory.
+/// copies. An UPDATE or a DELETE takes all foreign keys of the catalogue together first, and copies the rows that it changes
+/// and those at which actions look, which `execute_with` doesn't. An `Err` is the fault of the first part that has one, the
+/// least over its rows, a stop of the rows as they gave it, or want of memory.
 pub fn execute<R: Rows, L>(
     alloc: Global,
     cat: &Catalog,
@@ -156,5 +181,6 @@ pub fn execute<R: Rows, L>(
     ensures looks { Looks R.Rows (stop_of result) rows.old rows.new }
 {
     let keys = keys_for(cat, plan)?;
-    execute_with(alloc, cat, &keys, rows, plan, steps)
+    let mut counted = Counted { rows, steps };
+    execute_read(alloc, cat, &keys, &mut counted, plan)
 }

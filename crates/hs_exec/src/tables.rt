@@ -3,6 +3,7 @@ ghost use Rattle.std.specs.Prelude.{◌≡◌, IfOk};
 ghost use Rattle.hs_plan.specs.Named as spec;
 ghost use Rattle.hs_rel.specs.Outcome.{IsMemoryAlone};
 ghost use Rattle.hs_acting.specs.Kept.{keys_in};
+ghost use Rattle.hs_before.specs.Family.{is_in};
 ghost use Rattle.hs_exec.specs.Needed.{AreChanged};
 
 use hs_acting::References;
@@ -27,7 +28,7 @@ pub(crate) fn named_tables(alloc: Global, plan: &Plan) -> Result<Tables, EvalSto
 }
 
 fn changed(alloc: Global, keys: &References, plan: &Plan) -> Result<Tables, NoMemory>
-    ensures { IfOk result (AreChanged (keys_in keys.now) plan.now) }
+    ensures { IfOk result (λ tables. AreChanged (keys_in keys.now) plan.now (is_in tables)) }
 {
     match plan {
         Plan::Update(update) => family(alloc, keys, update.table),
@@ -47,7 +48,7 @@ pub(crate) fn changed_tables(
     keys: &References,
     plan: &Plan,
 ) -> Result<Tables, EvalStop>
-    ensures tables { IfOk result (AreChanged (keys_in keys.now) plan.now) }
+    ensures tables { IfOk result (λ tables. AreChanged (keys_in keys.now) plan.now (is_in tables)) }
     ensures err { IsMemoryAlone result }
 {
     match changed(alloc, keys, plan) {

@@ -8,11 +8,11 @@ use hs_values::Row;
 
 /// The rows of a draft as they are, for a statement that comes next.
 #[derive(Clone, Copy)]
-pub struct DraftRows<'a> {
+pub struct RowsInDraft<'a> {
     pub draft: &'a Draft,
 }
 
-impl RowsBefore for DraftRows<'_> {
+impl RowsBefore for RowsInDraft<'_> {
     ghost use Rattle.hs_draft.specs.Drafted.{after};
 
     ghost maps = { λ s. after s.draft.now };

@@ -12,13 +12,13 @@ ghost use Rattle.hs_outcome.specs.Counted as spec;
 
 use hs_acting::References;
 use hs_base::{Steps, TableNo};
+use hs_cascade::RowsBefore;
 use hs_exec::{Answer, execute_with};
 use hs_plan::{Changes, Plan};
 use hs_rel::EvalStop;
 use hs_rows::Rows;
 use hs_schema::Catalog;
 use hs_values::EvalFault;
-use std::alloc::Global;
 
 // The table of an UPDATE or a DELETE.
 fn acting_table(plan: &Plan) -> Option<TableNo>
@@ -50,36 +50,37 @@ fn changes_told(given: Result<Answer, EvalStop>) -> Result<usize, EvalStop>
 }
 
 // How many rows an UPDATE or a DELETE changes where no foreign key acts.
-fn alone<R: Rows, L>(
-    alloc: Global,
+fn alone<R: Rows, B: RowsBefore, L>(
     cat: &Catalog,
     rows: &mut R,
+    before: &B,
     plan: &Plan,
     steps: &mut Steps<L>,
 ) -> Result<usize, EvalStop>
     requires { R.ready rows.old }
-    ensures count { R.tells rows.old → (own : List TheChange) → executed (R.tables rows.old) cat.now [] plan.now ≡ Ok (Answer.Changes own) → IfOk result (λ n. n ≡ length own) }
+    ensures count { R.tells rows.old → B.maps before.now ≡ R.tables rows.old → (own : List TheChange) → executed (R.tables rows.old) cat.now [] plan.now ≡ Ok (Answer.Changes own) → IfOk result (λ n. n ≡ length own) }
     ensures err { IsNoVerdict result }
     ensures looks { Looks R.Rows (stop_of result) rows.old rows.new }
 {
+    let alloc = cat.alloc();
     let none = References::new(alloc);
-    changes_told(execute_with(alloc, cat, &none, rows, plan, steps))
+    changes_told(execute_with(alloc, cat, &none, rows, before, plan, steps))
 }
 
 /// How many rows a statement puts or deletes itself, whose changes these are, without those that the actions of
 /// foreign keys change. Where none references its table, these are all of them, and else it is evaluated again
-/// without actions. An `Err` is a stop of the rows as they gave it, or want of memory.
-pub(crate) fn own_count<R: Rows, L>(
-    alloc: Global,
+/// without actions, over the same rows. An `Err` is a stop of the rows as they gave it, or want of memory.
+pub(crate) fn own_count<R: Rows, B: RowsBefore, L>(
     cat: &Catalog,
     keys: &References,
     rows: &mut R,
+    before: &B,
     plan: &Plan,
     changes: &Changes,
     steps: &mut Steps<L>,
 ) -> Result<usize, EvalStop>
     requires { R.ready rows.old }
-    ensures count { R.tells rows.old → tentative (around_in (R.tables rows.old) (columns_in cat.now) (keys_in keys.now)) plan.now ≡ Ok changes.now → IfOk result (λ n. n ≡ language.own_count (around_in (R.tables rows.old) (columns_in cat.now) (keys_in keys.now)) plan.now changes.now) }
+    ensures count { R.tells rows.old → B.maps before.now ≡ R.tables rows.old → tentative (around_in (R.tables rows.old) (columns_in cat.now) (keys_in keys.now)) plan.now ≡ Ok changes.now → IfOk result (λ n. n ≡ language.own_count (around_in (R.tables rows.old) (columns_in cat.now) (keys_in keys.now)) plan.now changes.now) }
     ensures err { IsNoVerdict result }
     ensures looks { Looks R.Rows (stop_of result) rows.old rows.new }
 {
@@ -89,5 +90,5 @@ pub(crate) fn own_count<R: Rows, L>(
     if keys.on(table).is_empty() {
         return Ok(changes.len());
     }
-    alone(alloc, cat, rows, plan, steps)
+    alone(cat, rows, before, plan, steps)
 }

@@ -16,6 +16,7 @@ use crate::given::Given;
 use crate::settled::settled;
 use hs_acting::References;
 use hs_base::Steps;
+use hs_cascade::RowsBefore;
 use hs_exec::{Answer, execute_with};
 use hs_plan::{Changes, Plan};
 use hs_rel::EvalStop;
@@ -54,64 +55,67 @@ fn unevaluated(plan: &Plan) -> Given
 }
 
 // Changes with the number of rows that the statement puts or deletes itself.
-fn counted<R: Rows, L>(
-    alloc: Global,
+fn counted<R: Rows, B: RowsBefore, L>(
     cat: &Catalog,
     keys: &References,
     rows: &mut R,
+    before: &B,
     plan: &Plan,
     changes: Changes,
     steps: &mut Steps<L>,
 ) -> Result<Given, EvalStop>
     requires { R.ready rows.old }
-    ensures outcome { R.tells rows.old → executed (R.tables rows.old) cat.now (keys_in keys.now) plan.now ≡ Ok (Answer.Changes changes) → spec.is_evaluated plan.now ≡ true → AreOf cat.now (keys_in keys.now) → (r : Reading) (inserted : ℕ) (db : Database) → db.things ≡ cat.now → db.rows ≡ R.tables rows.old → IfOk result (λ given. of_plan r inserted db plan.now ≡ outcome_of r inserted db plan.now given) }
+    ensures outcome { R.tells rows.old → B.maps before.now ≡ R.tables rows.old → executed (R.tables rows.old) cat.now (keys_in keys.now) plan.now ≡ Ok (Answer.Changes changes) → spec.is_evaluated plan.now ≡ true → AreOf cat.now (keys_in keys.now) → (r : Reading) (inserted : ℕ) (db : Database) → db.things ≡ cat.now → db.rows ≡ R.tables rows.old → IfOk result (λ given. of_plan r inserted db plan.now ≡ outcome_of r inserted db plan.now given) }
     ensures err { IsNoVerdict result }
     ensures looks { Looks R.Rows (stop_of result) rows.old rows.new }
 {
-    let count = own_count(alloc, cat, keys, rows, plan, &changes, steps)?;
+    let count = own_count(cat, keys, rows, before, plan, &changes, steps)?;
     Ok(Given::Changes(changes, count))
 }
 
 // What a query or a change of rows gives.
-fn evaluated<R: Rows, L>(
+fn evaluated<R: Rows, B: RowsBefore, L>(
     alloc: Global,
     cat: &Catalog,
     keys: &References,
     rows: &mut R,
+    before: &B,
     plan: &Plan,
     steps: &mut Steps<L>,
 ) -> Result<Given, EvalStop>
     requires { R.ready rows.old }
-    ensures outcome { R.tells rows.old → spec.is_evaluated plan.now ≡ true → AreOf cat.now (keys_in keys.now) → (r : Reading) (inserted : ℕ) (db : Database) → db.things ≡ cat.now → db.rows ≡ R.tables rows.old → IfOk result (λ given. of_plan r inserted db plan.now ≡ outcome_of r inserted db plan.now given) }
+    ensures outcome { R.tells rows.old → B.maps before.now ≡ R.tables rows.old → spec.is_evaluated plan.now ≡ true → AreOf cat.now (keys_in keys.now) → (r : Reading) (inserted : ℕ) (db : Database) → db.things ≡ cat.now → db.rows ≡ R.tables rows.old → IfOk result (λ given. of_plan r inserted db plan.now ≡ outcome_of r inserted db plan.now given) }
     ensures err { IsNoVerdict result }
     ensures looks { Looks R.Rows (stop_of result) rows.old rows.new }
 {
-    match settled(execute_with(alloc, cat, keys, rows, plan, steps))? {
+    match settled(execute_with(alloc, cat, keys, rows, before, plan, steps))? {
         Ok(Answer::Rows(answer)) => Ok(Given::Rows(answer)),
-        Ok(Answer::Changes(changes)) => counted(alloc, cat, keys, rows, plan, changes, steps),
+        Ok(Answer::Changes(changes)) => counted(cat, keys, rows, before, plan, changes, steps),
         Err(fault) => Ok(Given::Fault(fault)),
     }
 }
 
 /// What a bound statement gives over these rows: the rows of a query, the changes of an INSERT, an UPDATE or a DELETE
 /// with those of foreign key actions, or the fault for which it is refused. `keys` are the foreign keys of the
-/// catalogue, which `hs_references` makes. Each row that is looked at is a step; no constraint is asked. An `Err` is
-/// a stop of the rows as they gave it, or want of memory.
-pub fn give<R: Rows, L>(
+/// catalogue, which `hs_references` makes, and `before` has the same rows, by their numbers and keys. Each row that is
+/// looked at is a step, but none of `before`; no constraint is asked. An `Err` is a stop of the rows as they gave it, or
+/// want of memory.
+pub fn give<R: Rows, B: RowsBefore, L>(
     alloc: Global,
     cat: &Catalog,
     keys: &References,
     rows: &mut R,
+    before: &B,
     plan: &Plan,
     steps: &mut Steps<L>,
 ) -> Result<Given, EvalStop>
     requires { R.ready rows.old }
-    ensures outcome { R.tells rows.old → AreOf cat.now (keys_in keys.now) → (r : Reading) (inserted : ℕ) (db : Database) → db.things ≡ cat.now → db.rows ≡ R.tables rows.old → IfOk result (λ given. of_plan r inserted db plan.now ≡ outcome_of r inserted db plan.now given) }
+    ensures outcome { R.tells rows.old → B.maps before.now ≡ R.tables rows.old → AreOf cat.now (keys_in keys.now) → (r : Reading) (inserted : ℕ) (db : Database) → db.things ≡ cat.now → db.rows ≡ R.tables rows.old → IfOk result (λ given. of_plan r inserted db plan.now ≡ outcome_of r inserted db plan.now given) }
     ensures err { IsNoVerdict result }
     ensures looks { Looks R.Rows (stop_of result) rows.old rows.new }
 {
     if is_evaluated(plan) {
-        return evaluated(alloc, cat, keys, rows, plan, steps);
+        return evaluated(alloc, cat, keys, rows, before, plan, steps);
     }
     Ok(unevaluated(plan))
 }

@@ -11,11 +11,10 @@ pub returns : goal.returns
 returns c = λ r tells lists are db behind is same held.
     let seen = view db behind in
     let plan = c.args.plan.now in
-    let at = c.given.ensures.seated db.rows behind is in
-    let gave = c.in_ok-given.ensures.given are r (count_all_inserted behind) seen same (λ i t. sym (is.rows.draft t) i) in
-    let touched = c.in_ok-foot.ensures r tells lists seen same (λ i t. sym (at.rows.draft t) i) in
-    let first = c.in_ok-violation.ensures.violated db behind at same held ∙ ap (violated_by (count_all_inserted behind) seen) c.changes_of.ensures in
-    let on = c.in_ok-violation.ensures.seated db.rows behind at in
+    let gave = c.in_ok-given.ensures are r (count_all_inserted behind) seen same (λ i t. sym (is.rows.draft t) i) in
+    let touched = c.in_ok-foot.ensures r tells lists seen same (λ i t. sym (is.rows.draft t) i) in
+    let first = c.in_ok-violation.ensures.violated db behind is same held ∙ ap (violated_by (count_all_inserted behind) seen) c.changes_of.ensures in
+    let on = c.in_ok-violation.ensures.seated db.rows behind is in
     let left = c.in_ok-keep.ensures db.rows behind c.changes_of.result.now (c.len-before.ensures db.rows behind is) on in
     let told = c.in_ok-told.ensures.outcome c.is_kept-kept.ensures r seen plan touched in
     record {

@@ -8,6 +8,6 @@ use Rattle.hs_exec.proofs.executing.execute.Goals as goal
 
 pub returns-clause-answer : goal.returns-clause-answer
 returns-clause-answer g c = λ tells keys are.
-    subst (λ (means : Result Answer EvalFault). Answers means c.execute_with.result)
+    subst (λ (means : Result Answer EvalFault). Answers means c.execute_read.result)
     (executed_alike (g.R.Rows.tables c.args.rows.now) c.args.cat.now (keys_in c.in_ok-keys.keys) keys c.args.plan.now c.in_ok-keys.ensures.keys are)
-    (c.execute_with.ensures.answer tells)
+    (c.execute_read.ensures.answer tells)

@@ -22,7 +22,7 @@ returns-in-Some g c =
     let things = c.args.cat.now in
     let keys = keys_in c.args.keys.now in
     record {
-      answer = λ tells.
+      answer = λ tells before.
           subst (λ (means : Result Answer EvalFault). Answers means c.rows_told.result)
           (sym (executed_is tables things keys c.args.plan.now
           ∙ ap (λ (o : Option Query). option_map_or (λ (query : Query). answer tables query >>= λ rows. Ok (a.Rows rows)) o (changes_made tables things keys c.args.plan.now)) (sym c.in-Some.ensures)))
@@ -36,10 +36,10 @@ returns-in-None g c =
     let things = c.args.cat.now in
     let keys = keys_in c.args.keys.now in
     record {
-      answer = λ tells.
+      answer = λ tells before.
           subst (λ (means : Result Answer EvalFault). Answers means c.changes_told.result)
           (sym (executed_is tables things keys c.args.plan.now
           ∙ ap (λ (o : Option Query). option_map_or (λ (query : Query). answer tables query >>= λ rows. Ok (a.Rows rows)) o (changes_made tables things keys c.args.plan.now)) (sym c.in-None.ensures)))
-          (c.changes_told.ensures.answer (tentative (around_in tables (columns_in things) keys) c.args.plan.now) (c.changes_of.ensures.changes tells));
+          (c.changes_told.ensures.answer (tentative (around_in tables (columns_in things) keys) c.args.plan.now) (c.changes_of.ensures.changes tells before));
       looks = subst (λ (stop : Option StopKind). Looks g.R.Rows stop c.args.rows.now c.changes_of.new.rows) (sym c.changes_told.ensures.stop) c.changes_of.ensures.looks;
     }
