@@ -42,11 +42,11 @@ module _ (tables : Maps) where
 
   -- the same over lists that were read of it
   abbrev pub layer_over : Select → List FromItem → List Expr → List Expr → SelectLayer
-  layer_over x from group_by items = layer_with (out-Select x).distinct (out-Select x).grouped items from (out-Select x).filter group_by (out-Select x).having
+  layer_over x from group_by items = layer_with tables (out-Select x).distinct (out-Select x).grouped items from (out-Select x).filter group_by (out-Select x).having
 
   pub select_over : (x : Select) (outer : Rows) (from : List FromItem) (group_by items : List Expr) → from ≡ (out-Select x).from → group_by ≡ (out-Select x).group_by → items ≡ (out-Select x).items → select_in tables x outer ≡ of_select (layer_over x from group_by items) outer
   select_over x outer from group_by items by_from by_group_by by_items =
-      ap (λ f. f outer) (select_is x) ∙ (λ i. of_select (layer_over x (sym by_from i) (sym by_group_by i) (sym by_items i)) outer)
+      ap (λ f. f outer) (select_is tables x) ∙ (λ i. of_select (layer_over x (sym by_from i) (sym by_group_by i) (sym by_items i)) outer)
 
   -- ---- parts of which there are several forms
 
