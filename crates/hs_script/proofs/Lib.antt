@@ -1,0 +1,5 @@
+pub mod HeadLemmas
+pub mod NumberedLemmas
+pub mod DefinitionLemmas
+pub mod PrintedLemmas
+pub mod RowLemmas

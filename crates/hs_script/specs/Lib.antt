@@ -1,0 +1,4 @@
+pub mod Heads
+pub mod Numbered
+pub mod Definitions
+pub mod Rows
