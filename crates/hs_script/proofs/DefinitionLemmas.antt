@@ -1,12 +1,12 @@
 -- The definitions of a catalogue, as they are read.
-use Rattle.std.proofs.Common.{◌≡◌, ◌≢◌, ℕ, ◌<◌, ◌≤◌, List, [], ◌∷◌, ◌++◌, length, refl, sym, ap, subst, ◌∙◌, arith}
+use Rattle.std.proofs.Common.{◌≡◌, ◌≢◌, ℕ, ◌<◌, List, [], ◌∷◌, length, refl, sym, ap, subst, arith}
 use Rattle.hs_plan.specs.declared.definition.Definition.{Definition}
 use Rattle.hs_schema.specs.Catalogue.{Things, after}
 use Rattle.hs_valuetext.proofs.TextLemmas.{Alone}
 use Rattle.hs_tabletext.specs.Conditions.{Wording}
 use Rattle.hs_committext.specs.Definitions.{IsDefinitionText}
 use Rattle.hs_script.specs.Numbered.{IsRunAt}
-use Rattle.hs_script.specs.Definitions.{Numbered, May, Fits, IsNumberedText, IsMadeAt, AreMade, Makes, IsCatalogueText}
+use Rattle.hs_script.specs.Definitions.{Numbered, May, Fits, IsNumberedText, AreMade, Makes, IsCatalogueText}
 use Rattle.hs_script.proofs.NumberedLemmas.{run_shorter}
 
 -- ---- one definition

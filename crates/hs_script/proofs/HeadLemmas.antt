@@ -1,14 +1,12 @@
 -- The first group of a slot, as it is read.
-use Rattle.std.proofs.Common.{◌≡◌, ◌≢◌, ℕ, ◌<◌, ◌≤◌, ◌^◌, Bool, true, false, List, [], ◌∷◌, ◌++◌, get_or, refl, sym, ap, subst, ◌∙◌, arith, codes}
+use Rattle.std.proofs.Common.{◌≡◌, ◌≢◌, ℕ, Bool, true, false, List, ◌++◌, get_or, refl, sym, ap, subst, ◌∙◌, arith, codes}
 use Rattle.std.specs.Fmt.{decimal}
 use Rattle.std.proofs.lemmas.Bool.{eqb-false}
-use Rattle.hs_base.specs.declared.numbers.CommitNo.{CommitNo}
 use Rattle.hs_claims.specs.declared.model.ControlKind.{ControlKind}
 use Rattle.hs_claims.specs.declared.model.ControlKind.TheVariants as k
 use Rattle.hs_valuetext.proofs.NumberLemmas.{same_front}
 use Rattle.hs_valuetext.proofs.TextLemmas.{Alone}
-use Rattle.hs_rowtext.specs.Numbers.{begins_digit, IsNumberAt}
-use Rattle.hs_shorttext.specs.Settings.{level_text}
+use Rattle.hs_rowtext.specs.Numbers.{IsNumberAt}
 use Rattle.hs_script.specs.declared.head.Head.{Head}
 use Rattle.hs_script.specs.Heads.{control_text, last_text, settings_text, head_text, IsHead, IsHeadText, IsCountAt, IsControlAt}
 

@@ -1,8 +1,8 @@
 -- Lines with numbers, as they are read.
-use Rattle.std.proofs.Common.{◌≡◌, ◌≢◌, ◌⊎◌, ℕ, suc, ◌+◌, ◌<◌, ◌≤◌, ◌^◌, true, false, List, [], ◌∷◌, ◌++◌, length, take, drop, get_or, Option, Some, None, Bor, inl, inr, refl, sym, ap, subst, ◌∙◌, append_assoc, append-nil, length-append, arith, codes}
+use Rattle.std.proofs.Common.{◌≡◌, ◌≢◌, ℕ, suc, ◌+◌, ◌<◌, ◌≤◌, ◌^◌, true, false, List, [], ◌∷◌, ◌++◌, length, take, drop, get_or, Option, Some, None, Bor, inr, refl, sym, ap, subst, ◌∙◌, append_assoc, append-nil, length-append, arith, codes}
 use Rattle.std.specs.Prelude.{MatchOption}
 use Rattle.std.specs.Fmt.{decimal}
-use Rattle.std.specs.List.{flat_map, list_any, AllByRecursion}
+use Rattle.std.specs.List.{flat_map, AllByRecursion}
 use Rattle.std.specs.Str.Pattern.{RFindsChar, HasCharAt}
 use Rattle.std.specs.Str.Parse.{AllDigits}
 use Rattle.std.proofs.lemmas.Bool.{eqb-false}
@@ -11,10 +11,8 @@ use Rattle.std.proofs.lemmas.List.{take-append-drop}
 use Rattle.std.proofs.lemmas.List.Concat.{flat_map-append}
 use Rattle.std.proofs.lemmas.Str.Parse.{digit_from_value}
 use Rattle.std.proofs.lemmas.Str.Pattern.{NoCharPasses-char, drop_at_char}
-use Rattle.hs_valuetext.specs.Quotes.{begins_with}
 use Rattle.hs_valuetext.specs.Values.{IsUnsigned}
 use Rattle.hs_valuetext.proofs.Bits.{any-append, or_false}
-use Rattle.hs_valuetext.proofs.NumberLemmas.{same_front}
 use Rattle.hs_valuetext.proofs.TextLemmas.{Alone}
 use Rattle.hs_columnlaws.proofs.CleanValues.{clean++, clean_decimal}
 use Rattle.hs_tabletext.proofs.CleanRules.{feedless}

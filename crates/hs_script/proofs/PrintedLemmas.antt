@@ -1,15 +1,14 @@
 -- Lines with numbers, as they are written.
-use Rattle.std.proofs.Common.{◌≡◌, ◌≢◌, ℕ, ◌+◌, ◌<◌, ◌^◌, Bool, true, false, List, [], ◌∷◌, ◌++◌, length, inl, inr, refl, sym, ap, subst, ◌∙◌, append_assoc, append-nil, length-append, arith}
+use Rattle.std.proofs.Common.{◌≡◌, ℕ, ◌<◌, ◌^◌, true, false, List, [], ◌∷◌, ◌++◌, inl, inr, refl, sym, ap, ◌∙◌, append_assoc, append-nil, arith}
 use Rattle.std.specs.List.{flat_map, AllByRecursion}
 use Rattle.std.proofs.lemmas.Bool.{cases_Bool}
 use Rattle.std.proofs.lemmas.List.Concat.{flat_map-append}
-use Rattle.hs_plan.specs.declared.definition.Definition.{Definition}
 use Rattle.hs_schema.specs.Catalogue.{Things, after}
 use Rattle.hs_valuetext.proofs.Bits.{or_false}
 use Rattle.hs_parttext.specs.Lines.{is_feed, has_feed}
 use Rattle.hs_tabletext.specs.Conditions.{Wording}
-use Rattle.hs_committext.specs.Definitions.{definition_text, IsDefinition}
-use Rattle.hs_script.specs.Numbered.{line_end, number_part, IsPast, IsNumberedAt, numbered_lines, joined, is_some_line, IsRunAt, numbered_byte, numbered_text}
+use Rattle.hs_committext.specs.Definitions.{definition_text}
+use Rattle.hs_script.specs.Numbered.{line_end, IsPast, numbered_lines, joined, is_some_line, IsRunAt, numbered_byte, numbered_text}
 use Rattle.hs_script.specs.Definitions.{Numbered, May, Fits, AreMade, IsCatalogueText, definitions_text, all_made, Follow}
 use Rattle.hs_script.proofs.NumberedLemmas.{past_run, past_nothing}
 

@@ -1,5 +1,5 @@
 -- Lines of rows that are stored.
-use Rattle.std.proofs.Common.{◌≡◌, ℕ, suc, ◌+◌, ◌<◌, ◌≤◌, ◌^◌, true, false, List, [], ◌∷◌, ◌++◌, length, drop, get_or, drop-cons, add-one, codes, refl, sym, ap, subst, ◌∙◌, append_assoc, arith}
+use Rattle.std.proofs.Common.{◌≡◌, ℕ, suc, ◌+◌, ◌<◌, false, List, [], ◌∷◌, ◌++◌, length, drop, get_or, drop-cons, add-one, codes, refl, sym, ap, subst, ◌∙◌, append_assoc, arith}
 use Rattle.std.specs.Fmt.{decimal}
 use Rattle.std.specs.List.{All}
 use Rattle.std.proofs.lemmas.List.Elements.{All-head, All-tail}
@@ -13,7 +13,7 @@ use Rattle.hs_valuetext.proofs.Bits.{any-append}
 use Rattle.hs_columnlaws.proofs.CleanValues.{Clean, clean++, clean_value, clean_decimal}
 use Rattle.hs_tabletext.proofs.CleanRules.{feedless}
 use Rattle.hs_parttext.specs.Lines.{is_feed, has_feed}
-use Rattle.hs_rowtext.specs.Lines.{values_part, number_part, numbered_part, kept_line, IsRowNo, IsKeptLine}
+use Rattle.hs_rowtext.specs.Lines.{values_part, number_part, numbered_part, IsRowNo, IsKeptLine}
 use Rattle.hs_rowtext.specs.Rows.{others_text, row_text, types_of}
 use Rattle.hs_committext.specs.Lines.{AreLinesOf}
 use Rattle.hs_script.specs.declared.stored_row.StoredRow.{StoredRow}

@@ -1,4 +1,4 @@
-use Rattle.std.proofs.Common.{ℕ, ◌<◌, ◌^◌, arith}
+use Rattle.std.proofs.Common.{◌<◌, ◌^◌, arith}
 use Rattle.hs_script.proofs.NumberedLemmas.{past_none, past_other}
 use Rattle.hs_script.proofs.numbered.next_of.Goals as goal
 
