@@ -1,4 +1,4 @@
-// Indexes over the columns of keys.
+// Indexes over the columns of keys, and those of CREATE INDEX.
 ghost use Rattle.std.specs.Prelude.{◌≡◌, ℕ, List};
 ghost use Rattle.hs_changes.specs.Settings.{Maps};
 ghost use Rattle.hs_draft.specs.Drafted.{after};
@@ -67,7 +67,7 @@ fn index_rule(cat: &Catalog, table: TableNo, rule: &Rule, draft: &mut Draft) -> 
         Rule::ForeignKey(key) => index_key(cat, table, key, draft),
         Rule::NotNull(_) => Ok(()),
         Rule::Check(_) => Ok(()),
-        Rule::Index(_) => Ok(()),
+        Rule::Index(columns) => draft.add_index(table, columns.as_slice()),
     }
 }
 
@@ -82,8 +82,8 @@ fn index_thing(cat: &Catalog, thing: &Thing, draft: &mut Draft) -> Result<(), No
 }
 
 /// Makes the indexes for the things of a catalogue with a change number from this one on: over the columns of each
-/// key, over those of each foreign key, and over what it references. The rows stay as they are. An `Err` is want of
-/// memory.
+/// key, over those of each foreign key, over what it references, and over those of each CREATE INDEX. The rows stay as
+/// they are. An `Err` is want of memory.
 pub(crate) fn index_from(cat: &Catalog, number: u64, draft: &mut Draft) -> Result<(), NoMemory>
     ensures { (t : ℕ) → after draft.new t ≡ after draft.old t }
 {
@@ -95,9 +95,9 @@ pub(crate) fn index_from(cat: &Catalog, number: u64, draft: &mut Draft) -> Resul
     Ok(())
 }
 
-/// Makes the indexes for the constraints that definitions with a change number from this one on added to a catalogue,
-/// so that changes of rows are judged without a look at all rows. The rows stay as they are. An `Err` is want of
-/// memory.
+/// Makes the indexes for the constraints and indexes that definitions with a change number from this one on added to a
+/// catalogue, so that changes of rows are judged, and rows found by a key, without a look at all rows. The rows stay as
+/// they are. An `Err` is want of memory.
 pub fn index_added(cat: &Catalog, number: u64, seated: &mut Seated) -> Result<(), NoMemory>
     ensures { (maps : Maps) (changes : List TheChange) → IsSeated maps changes seated.old → IsSeated maps changes seated.new }
 {
