@@ -13,7 +13,7 @@ returns-then-is_named_once c =
     let choice = c.in_ok-choice.choice in
     let named : c.as_slice.result.now ≡ named_in_query query = c.as_slice.ensures ∙ c.requires in
     let once : count_by (is_one choice.table) (named_in_query query) ≡ 1 =
-        ap (count_by (is_one choice.table)) (sym named) ∙ eqb-true (count_by (is_one choice.table) c.as_slice.result.now) 1 (sym c.is_named_once.ensures ∙ c.if-is_named_once.true) in
+    ap (count_by (is_one choice.table)) (sym named) ∙ eqb-true (count_by (is_one choice.table) c.as_slice.result.now) 1 (sym c.is_named_once.ensures ∙ c.if-is_named_once.true) in
     reads_through query c.get.result.now choice.table choice.condition.now
     (c.in-Select.is ∙ ap b.Select (sym c.get.ensures))
     c.in_ok-choice.ensures once

@@ -26,8 +26,8 @@ returns-in_ok-kept-in-Some-clause-answer g c = λ t.
     serves_from query tables c.copies_beside.result c.copies_beside.ensures.err
     (IfOk-weaker c.copies_beside.result _ _
     (λ copies stand.
-        let then : Stand (with_rows tables choice.table kept) c.args.named.now copies = subst (λ (m : Maps). Stand (with_rows m choice.table kept) c.args.named.now copies) looks.tables stand in
-        beside_serve query choice.table choice.condition.now through tables kept copies same (subst (λ (l : List TableNo). Stand (with_rows tables choice.table kept) l copies) c.requires.named then))
+    let then : Stand (with_rows tables choice.table kept) c.args.named.now copies = subst (λ (m : Maps). Stand (with_rows m choice.table kept) c.args.named.now copies) looks.tables stand in
+    beside_serve query choice.table choice.condition.now through tables kept copies same (subst (λ (l : List TableNo). Stand (with_rows tables choice.table kept) l copies) c.requires.named then))
     (c.copies_beside.ensures.rows told))
 
 pub returns-in-None-clause-answer : goal.returns-in-None-clause-answer
