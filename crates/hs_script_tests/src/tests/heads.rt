@@ -95,17 +95,16 @@ fn agrees(alloc: Global, head: &Head, text: &str) -> Result<bool, Fail> {
 }
 
 #[test]
-fn heads_are_written_and_read(alloc: Global) -> Result<(), Fail> {
-    for (at, case) in RIGHT.iter().enumerate() {
-        assert!(agrees(alloc, &case.0, case.1)?, "{}", at);
+fn heads_are_written_and_read(rt: HostRuntime) -> Result<(), Fail> {
+    for (head, text) in &RIGHT {
+        assert!(rt; agrees(rt.alloc(), head, text)?, "{text}");
     }
     Ok(())
 }
 
 #[test]
-fn what_is_no_head_is_not_read() -> Result<(), Fail> {
-    for text in WRONG.iter() {
-        assert_eq!(read_head(text), None, "{}", text);
+fn what_is_no_head_is_not_read(rt: HostRuntime) {
+    for text in &WRONG {
+        assert!(rt; read_head(text).is_none(), "{text}");
     }
-    Ok(())
 }
