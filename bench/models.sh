@@ -207,21 +207,21 @@ snapshots_part() {
     local count=$((rows / 10)) next=$rows plain=() beside=() first=()
     line "under MVCC, $rows rows with a key" "microseconds" "milliseconds" "of without"
     begin_program
-    { echo "w: SET DATABASE TRANSACTION CONTROL MVCC;"; echo "w: CREATE TABLE T (N BIGINT PRIMARY KEY, M BIGINT);"; bulk; } | stage
+    stage < <(echo "w: SET DATABASE TRANSACTION CONTROL MVCC;"; echo "w: CREATE TABLE T (N BIGINT PRIMARY KEY, M BIGINT);"; bulk)
     line "the rows are put, a thousand to a commit" "" "$(reckon "1000 * $seconds")"
     for ((round = 0; round < rounds; round++)); do
-        more "$next" $count | stage
+        stage < <(more "$next" $count)
         plain+=("$seconds")
         next=$((next + count))
-        echo "r: START TRANSACTION ISOLATION LEVEL SERIALIZABLE;" | stage
+        stage < <(echo "r: START TRANSACTION ISOLATION LEVEL SERIALIZABLE;")
         begins=$seconds
-        more "$next" 1 | stage
+        stage < <(more "$next" 1)
         first+=("$seconds")
         next=$((next + 1))
-        more "$next" $count | stage
+        stage < <(more "$next" $count)
         beside+=("$seconds")
         next=$((next + count))
-        echo "r: COMMIT;" | stage
+        stage < <(echo "r: COMMIT;")
     done
     line "an INSERT, with no transaction open" "$(reckon "1000000 * $(median "${plain[@]}") / $count" 1)"
     line "START TRANSACTION at SERIALIZABLE" "" "$(reckon "1000 * $begins")"
@@ -234,12 +234,12 @@ snapshots_part() {
 
 # two_at_one_state FIRST: two transactions start at one state, and then a row is put.
 two_at_one_state() {
-    for session in r q; do echo "$session: START TRANSACTION ISOLATION LEVEL SERIALIZABLE;"; done | stage
-    more "$1" 1 | stage
+    stage < <(for session in r q; do echo "$session: START TRANSACTION ISOLATION LEVEL SERIALIZABLE;"; done)
+    stage < <(more "$1" 1)
     line "the first INSERT behind two starts at one state" "" "$(reckon "1000 * $seconds")"
-    more "$(($1 + 1))" 1 | stage
+    stage < <(more "$(($1 + 1))" 1)
     line "the next one" "" "$(reckon "1000 * $seconds")"
-    { echo "r: COMMIT;"; echo "q: COMMIT;"; } | stage
+    stage < <(echo "r: COMMIT;"; echo "q: COMMIT;")
 }
 
 case $part in
