@@ -3,7 +3,7 @@ use Rattle.std.proofs.Common.{◌≡◌, ℕ, ◌<◌, suc, Bool, true, false, �
 use Rattle.std.proofs.lemmas.Bool.{eqb-true}
 use Rattle.std.specs.BTreeMap.{BTreeMap}
 use Rattle.std.specs.Cmp.{nat_cmp_total, eq_by_cmp_equiv, tied_itself}
-use Rattle.std.specs.FinMap.{empty, get, get-empty, same_map, nat_cmp-IsAntisymmetric}
+use Rattle.std.specs.FinMap.{empty, get, get-empty, insert, remove, same_map, nat_cmp-IsAntisymmetric}
 use Rattle.std.specs.List.{All, list_any}
 use Rattle.std.specs.List.Sorted.{IsStrictlySortedBy}
 use Rattle.std.specs.Map.{lookup, keys_of}
@@ -13,6 +13,7 @@ use Rattle.hs_values.specs.declared.value.Value.{Value}
 use Rattle.hs_index.specs.Table.{Rows}
 use Rattle.hs_changes.specs.Settings.{with_values}
 use Rattle.hs_changes.proofs.Set.{ties_are_equal, get-with_values}
+use Rattle.hs_keyed.specs.Kept.{moved}
 use Rattle.hs_keyed.proofs.Stored.{not_among, remove-none}
 use Rattle.hs_sentences.specs.Asking.{Test, passes_at, any_of, is_one_of}
 use Rattle.hs_draft.specs.Drafted.{Olds, is, rows_at, olds_at, old_in, old_of, with_olds}
@@ -53,6 +54,16 @@ rows_none tables table row none t = by (t == table) refl
     by true same =
         let nothing : rows_at tables t ≡ empty = ap (rows_at tables) (eqb-true t table same) ∙ ap (λ o. unwrap_or o empty) none in
         nothing ∙ sym (ap (λ rows. with_values rows row None) nothing ∙ remove-none empty row (get-empty nat_cmp row))
+    by false other = refl
+
+-- nor does one of them get another number
+pub rows_unmoved : (tables : Tables) (table from to : ℕ) → lookup (is table) tables ≡ None → (t : ℕ) → rows_at tables t ≡ (if t == table then moved (rows_at tables t) from to else rows_at tables t)
+rows_unmoved tables table from to none t = by (t == table) refl
+  where
+    by : (b : Bool) → (t == table) ≡ b → rows_at tables t ≡ (if b then moved (rows_at tables t) from to else rows_at tables t)
+    by true same =
+        let nothing : rows_at tables t ≡ empty = ap (rows_at tables) (eqb-true t table same) ∙ ap (λ o. unwrap_or o empty) none in
+        nothing ∙ sym (ap (λ rows. moved rows from to) nothing ∙ ap (λ o. option_map_or (λ values. insert (remove empty from) to values) o empty) (get-empty nat_cmp from))
     by false other = refl
 
 -- ---- tables that are copied one after another

@@ -3,7 +3,7 @@ ghost use Rattle.std.specs.Prelude.{◌≡◌};
 
 use crate::check::Check;
 use hs_base::{NoMemory, RowNo};
-use hs_index::{has_null, key_in};
+use hs_index::{has_gap, key_in};
 use hs_keyed::{KeyedRows, RowTest};
 use hs_plan::Expr;
 use hs_values::Value;
@@ -20,9 +20,8 @@ impl RowTest for Gap<'_> {
 
     ghost test = { λ s. has_gap s.columns.now };
 
-    fn passes(&self, alloc: Global, _number: RowNo, row: &[Value]) -> Result<bool, NoMemory> {
-        let key = key_in(alloc, self.columns, row)?;
-        Ok(has_null(key.as_slice()))
+    fn passes(&self, _alloc: Global, _number: RowNo, row: &[Value]) -> Result<bool, NoMemory> {
+        Ok(has_gap(self.columns, row))
     }
 }
 
@@ -75,10 +74,10 @@ impl RowTest for Orphan<'_> {
     ghost test = { λ s. is_orphan s.columns.now s.parent_columns.now s.parents.now };
 
     fn passes(&self, alloc: Global, _number: RowNo, row: &[Value]) -> Result<bool, NoMemory> {
-        let key = key_in(alloc, self.columns, row)?;
-        if has_null(key.as_slice()) {
+        if has_gap(self.columns, row) {
             return Ok(false);
         }
+        let key = key_in(alloc, self.columns, row)?;
         Ok(!self.parents.has_key(self.parent_columns, &key)?)
     }
 }

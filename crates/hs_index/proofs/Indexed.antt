@@ -1,8 +1,9 @@
 -- The index of a table stays its index.
-use Rattle.std.proofs.Common.{◌≡◌, ℕ, Bool, true, false, not, ◌&&◌, ◌||◌, cond, if◌then◌else◌, List, [], ◌∷◌, map, Some, None, refl, sym, ap, ◌∙◌}
+use Rattle.std.proofs.Common.{◌≡◌, ℕ, Bool, true, false, not, ◌&&◌, ◌||◌, cond, if◌then◌else◌, List, [], ◌∷◌, map, Option, Some, None, refl, sym, ap, ◌∙◌}
 use Rattle.std.proofs.lemmas.Cmp.{ranked}
 use Rattle.std.specs.Cmp.{nat_cmp_total, eq_by_cmp_equiv}
 use Rattle.std.specs.FinMap.{empty, get, insert, remove, get-empty, get-insert, get-remove}
+use Rattle.std.specs.Option.{unwrap_or}
 use Rattle.std.specs.Ordering.{nat_cmp}
 use Rattle.std.specs.declared.cmp.Ordering.TheVariants.{Equal}
 use Rattle.hs_base.specs.declared.numbers.RowNo.{RowNo}
@@ -13,8 +14,9 @@ use Rattle.hs_values.specs.TotalOrder.{row_order_of_total}
 use Rattle.hs_values.proofs.Keys.{equal_row_keys}
 use Rattle.hs_index.specs.Keys.{key_in, is_null, has_null, same_key}
 use Rattle.hs_index.specs.RowSets.{IsAscending, is_row, has_row, with_row, without_row}
-use Rattle.hs_index.specs.Rows.{Keyed, rows_with, Puts, Takes}
+use Rattle.hs_index.specs.Rows.{Keyed, list_of, rows_with, Exchanges, Puts, Takes}
 use Rattle.hs_index.specs.Table.{Rows, has_key, IsIndexOf}
+use Rattle.hs_index.proofs.Stored.{list_of-same}
 use Rattle.hs_index.proofs.RowSets.{equal_from, has_row-with_row, has_row-without_row}
 
 -- ---- equal keys
@@ -123,6 +125,37 @@ module _ (columns : List ℕ) (table : Rows) (old : Keyed) (is : IsIndexOf colum
       by : (e : Bool) → is_row q r ≡ e → has_row (rows_with old key) q ≡ has_key columns key (get (remove table r.0) q.0)
       by true he = is key q ∙ ap (has_key columns key) (same_number table q r he ∙ there) ∙ has_none columns row key null ∙ sym (ap (has_key columns key) (after_remove q true he))
       by false he = is key q ∙ sym (ap (has_key columns key) (after_remove q false he))
+
+-- ---- a table one of whose rows got another number
+
+module _ (columns : List ℕ) (table : Rows) (old : Keyed) (is : IsIndexOf columns table old) (row : List Value) (from to : RowNo) (there : get table from.0 ≡ Some row) (none : get (remove table from.0) to.0 ≡ None) where
+  abbrev its_key : List Value
+  its_key = key_in columns row
+
+  -- the keys when the row has no number
+  abbrev between : Keyed
+  between = (its_key, without_row from (rows_with old its_key)) ∷ old
+
+  taken_between : Takes old between its_key from
+  taken_between k = by (same_key its_key k) (same_key-symm k its_key) refl
+    where
+      by : (b : Bool) → same_key k its_key ≡ same_key its_key k → same_key its_key k ≡ b → rows_with between k ≡ (if b then without_row from (rows_with old k) else rows_with old k)
+      by true turned same = ap (λ t. unwrap_or (cond t (Some (without_row from (rows_with old its_key))) (list_of old k)) []) (turned ∙ same) ∙ ap (λ (o : Option (List RowNo)). without_row from (unwrap_or o [])) (list_of-same old its_key k same)
+      by false turned other = ap (λ t. unwrap_or (cond t (Some (without_row from (rows_with old its_key))) (list_of old k)) []) (turned ∙ other)
+
+  put_between : (new : Keyed) → Exchanges old new its_key from to → Puts between new its_key to
+  put_between new exchanges k = exchanges k ∙ by (same_key its_key k) (taken_between k)
+    where
+      by : (b : Bool) → rows_with between k ≡ (if b then without_row from (rows_with old k) else rows_with old k) → (if b then with_row to (without_row from (rows_with old k)) else rows_with old k) ≡ (if b then with_row to (rows_with between k) else rows_with between k)
+      by true its = ap (with_row to) (sym its)
+      by false its = sym its
+
+  pub index_exchange : (new : Keyed) → ((key : List Value) → IsAscending (rows_with old key)) → has_null its_key ≡ false → Exchanges old new its_key from to → IsIndexOf columns (insert (remove table from.0) to.0 row) new
+  index_exchange new ascending full exchanges =
+      index_put columns (remove table from.0) between (index_take columns table old is row from there between ascending taken_between) row to new none full (put_between new exchanges)
+
+  pub index_exchange_null : has_null its_key ≡ true → IsIndexOf columns (insert (remove table from.0) to.0 row) old
+  index_exchange_null null = index_put_null columns (remove table from.0) old (index_take_null columns table old is row from there null) row to none null
 
 -- ---- no row
 

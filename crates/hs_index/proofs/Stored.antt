@@ -8,14 +8,14 @@ use Rattle.hs_values.specs.TotalOrder.{row_order_of_total}
 use Rattle.hs_index.specs.Keys.{same_key}
 use Rattle.hs_index.specs.Kept.{IsKept}
 use Rattle.hs_index.specs.RowSets.{IsAscending, with_row, without_row}
-use Rattle.hs_index.specs.Rows.{Keyed, list_of, rows_with, Puts, Takes}
+use Rattle.hs_index.specs.Rows.{Keyed, list_of, rows_with, Exchanges, Puts, Takes}
 use Rattle.hs_index.proofs.RowSets.{ascending_with, ascending_without, ascending_none, with_row-some}
 
 -- what it has afterwards, where it got a list at one key, or lost that key
 abbrev pub Sets : Keyed → Keyed → List Value → Option (List RowNo) → Type 0
 Sets old new key list = (k : List Value) → list_of new k ≡ cond (same_key key k) list (list_of old k)
 
-list_of-same : (keyed : Keyed) (a b : List Value) → same_key a b ≡ true → list_of keyed a ≡ list_of keyed b
+pub list_of-same : (keyed : Keyed) (a b : List Value) → same_key a b ≡ true → list_of keyed a ≡ list_of keyed b
 list_of-same [] a b h = refl
 list_of-same (e ∷ es) a b h = ap (λ t. cond t (Some e.1) (list_of es a)) ((eq_by_cmp_equiv row_order_of_total).congr a b e.0 h) ∙ ap (λ o. cond (same_key b e.0) (Some e.1) o) (list_of-same es a b h)
 
@@ -41,6 +41,9 @@ module _ (old new : Keyed) (key : List Value) where
   pub puts_from : (row : RowNo) (list : List RowNo) → Sets old new key (Some list) → list ≡ with_row row (rows_with old key) → Puts old new key row
   puts_from row list sets is = changed (Some list) sets (with_row row) is
 
+  pub exchanges_from : (from to : RowNo) (list : List RowNo) → Sets old new key (Some list) → list ≡ with_row to (without_row from (rows_with old key)) → Exchanges old new key from to
+  exchanges_from from to list sets is = changed (Some list) sets (λ rows. with_row to (without_row from rows)) is
+
   pub takes_from : (row : RowNo) (list : Option (List RowNo)) → Sets old new key list → unwrap_or list [] ≡ without_row row (rows_with old key) → Takes old new key row
   takes_from row list sets is = changed list sets (without_row row) is
 
@@ -61,6 +64,14 @@ module _ (old new : Keyed) (key : List Value) (row : RowNo) where
       by true is = subst IsAscending (sym is) (ascending_without row (rows_with old k) (ascending k))
       by false is = subst IsAscending (sym is) (ascending k)
 
+module _ (old new : Keyed) (key : List Value) (from to : RowNo) where
+  pub exchanges_ascending : Exchanges old new key from to → ((k : List Value) → IsAscending (rows_with old k)) → (k : List Value) → IsAscending (rows_with new k)
+  exchanges_ascending exchanges ascending k = by (same_key key k) (exchanges k)
+    where
+      by : (b : Bool) → rows_with new k ≡ (if b then with_row to (without_row from (rows_with old k)) else rows_with old k) → IsAscending (rows_with new k)
+      by true is = subst IsAscending (sym is) (ascending_with to (without_row from (rows_with old k)) (ascending_without from (rows_with old k) (ascending k)))
+      by false is = subst IsAscending (sym is) (ascending k)
+
 -- no list is left empty, but for one that is empty itself
 pub used_after : (old new : Keyed) (key : List Value) (list : Option (List RowNo)) → Sets old new key list → (list ≡ Some [] → ⊥) → ((k : List Value) → list_of old k ≡ Some [] → ⊥) → (k : List Value) → list_of new k ≡ Some [] → ⊥
 used_after old new key list sets full used k is = by (same_key key k) (sym (sets k) ∙ is)
@@ -69,15 +80,20 @@ used_after old new key list sets full used k is = by (same_key key k) (sym (sets
     by true h = full h
     by false h = used k h
 
-pub kept_after_put : (old new : Keyed) (key : List Value) (row : RowNo) (list none : List RowNo) → IsKept old none → Sets old new key (Some list) → list ≡ with_row row (rows_with old key) → IsKept new none
-kept_after_put old new key row list none kept sets is = record {
+some_same : (a b : List RowNo) → Some a ≡ Some b → a ≡ b
+some_same a b h = ap (λ o. unwrap_or o []) h
+
+pub kept_after_put : (old new : Keyed) (key : List Value) (row : RowNo) (list : List RowNo) → IsKept old → Sets old new key (Some list) → list ≡ with_row row (rows_with old key) → IsKept new
+kept_after_put old new key row list kept sets is = record {
   ascending = puts_ascending old new key row (puts_from old new key row list sets is) kept.ascending;
   used = used_after old new key (Some list) sets (λ h. with_row-some row (rows_with old key) (sym is ∙ some_same list [] h)) kept.used;
-  empty = kept.empty;
 }
-  where
-    some_same : (a b : List RowNo) → Some a ≡ Some b → a ≡ b
-    some_same a b h = ap (λ o. unwrap_or o []) h
+
+pub kept_after_exchange : (old new : Keyed) (key : List Value) (from to : RowNo) (list : List RowNo) → IsKept old → Sets old new key (Some list) → list ≡ with_row to (without_row from (rows_with old key)) → IsKept new
+kept_after_exchange old new key from to list kept sets is = record {
+  ascending = exchanges_ascending old new key from to (exchanges_from old new key from to list sets is) kept.ascending;
+  used = used_after old new key (Some list) sets (λ h. with_row-some to (without_row from (rows_with old key)) (sym is ∙ some_same list [] h)) kept.used;
+}
 
 -- ---- a row that is taken out: its list may be left empty, and then goes too
 
@@ -93,18 +109,18 @@ module _ (old mid new : Keyed) (key : List Value) (row : RowNo) (takes : Takes o
 abbrev pub SameElsewhere : Keyed → Keyed → List Value → Type 0
 SameElsewhere old new key = (k : List Value) → same_key key k ≡ false → list_of new k ≡ list_of old k
 
-module _ (old new : Keyed) (key : List Value) (row : RowNo) (none : List RowNo) (kept : IsKept old none) (takes : Takes old new key row) where
-  kept_if : ((k : List Value) → list_of new k ≡ Some [] → ⊥) → IsKept new none
-  kept_if used = record { ascending = takes_ascending old new key row takes kept.ascending; used = used; empty = kept.empty }
+module _ (old new : Keyed) (key : List Value) (row : RowNo) (kept : IsKept old) (takes : Takes old new key row) where
+  kept_if : ((k : List Value) → list_of new k ≡ Some [] → ⊥) → IsKept new
+  kept_if used = record { ascending = takes_ascending old new key row takes kept.ascending; used = used }
 
-  pub kept_with_list : SameElsewhere old new key → (list_of new key ≡ Some [] → ⊥) → IsKept new none
+  pub kept_with_list : SameElsewhere old new key → (list_of new key ≡ Some [] → ⊥) → IsKept new
   kept_with_list others full = kept_if (λ k is. by k (same_key key k) refl is)
     where
       by : (k : List Value) (b : Bool) → same_key key k ≡ b → list_of new k ≡ Some [] → ⊥
       by k true same is = full (list_of-same new key k same ∙ is)
       by k false other is = kept.used k (sym (others k other) ∙ is)
 
-  pub kept_without_list : (mid : Keyed) → SameElsewhere old mid key → Sets mid new key None → IsKept new none
+  pub kept_without_list : (mid : Keyed) → SameElsewhere old mid key → Sets mid new key None → IsKept new
   kept_without_list mid others gone = kept_if (λ k is. by k (same_key key k) refl (sym (gone k) ∙ is))
     where
       by : (k : List Value) (b : Bool) → same_key key k ≡ b → cond b None (list_of mid k) ≡ Some [] → ⊥
@@ -112,20 +128,18 @@ module _ (old new : Keyed) (key : List Value) (row : RowNo) (none : List RowNo) 
       by k false other is = kept.used k (sym (others k other) ∙ is)
 
 -- nothing is kept at first
-pub kept_empty : (keyed : Keyed) (none : List RowNo) → keyed ≡ [] → none ≡ [] → IsKept keyed none
-kept_empty keyed none empty no_rows = record {
+pub kept_empty : (keyed : Keyed) → keyed ≡ [] → IsKept keyed
+kept_empty keyed empty = record {
   ascending = λ key. subst (λ k. IsAscending (rows_with k key)) (sym empty) ascending_none;
   used = λ key is. let no : None ≡ Some [] = ap (λ k. list_of k key) (sym empty) ∙ is in cc;
-  empty = no_rows;
 }
 
 -- ---- a list that stays as it was, and one that isn't there
 
-pub kept_after_same : (old new : Keyed) (key : List Value) (list none : List RowNo) → IsKept old none → Sets old new key (Some list) → list_of old key ≡ Some list → IsKept new none
-kept_after_same old new key list none kept sets is = record {
+pub kept_after_same : (old new : Keyed) (key : List Value) (list : List RowNo) → IsKept old → Sets old new key (Some list) → list_of old key ≡ Some list → IsKept new
+kept_after_same old new key list kept sets is = record {
   ascending = λ k. subst IsAscending (ap (λ o. unwrap_or o []) (sym (same k))) (kept.ascending k);
   used = λ k left. kept.used k (sym (same k) ∙ left);
-  empty = kept.empty;
 }
   where
     by : (k : List Value) (b : Bool) → same_key key k ≡ b → cond b (Some list) (list_of old k) ≡ list_of old k

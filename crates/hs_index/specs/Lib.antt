@@ -1,4 +1,5 @@
 pub mod Keys
+pub mod Held
 pub mod Kept
 pub mod RowSets
 pub mod Rows

@@ -25,3 +25,7 @@ Puts old new key row = (k : List Value) → rows_with new k ≡ (if same_key key
 -- a row isn't under a key any more, and all else is as it was
 abbrev pub Takes : Keyed → Keyed → List Value → RowNo → Type 0
 Takes old new key row = (k : List Value) → rows_with new k ≡ (if same_key key k then without_row row (rows_with old k) else rows_with old k)
+
+-- a row is in the place of another under a key, and all else is as it was
+abbrev pub Exchanges : Keyed → Keyed → List Value → RowNo → RowNo → Type 0
+Exchanges old new key from to = (k : List Value) → rows_with new k ≡ (if same_key key k then with_row to (without_row from (rows_with old k)) else rows_with old k)

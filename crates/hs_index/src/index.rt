@@ -1,11 +1,11 @@
 // An index: rows by key.
 ghost use Rattle.std.specs.Prelude.{◌≡◌, ◌↔◌, [], false, None, Some, IsTrue, OnOk, OnErr, if◌then◌else◌};
 ghost use Rattle.hs_index.specs.Keys.{same_key};
-ghost use Rattle.hs_index.specs.Rows.{list_of, rows_with, Puts, Takes};
+ghost use Rattle.hs_index.specs.Rows.{list_of, rows_with, Exchanges, Puts, Takes};
 ghost use Rattle.hs_index.specs.RowSets.{IsAscending};
 
-use crate::row_set::{put, take};
-use hs_base::{NoMemory, RowNo, RowNos};
+use crate::row_set::RowSet;
+use hs_base::{NoMemory, RowNo};
 use hs_values::Row;
 use std::alloc::Global;
 use std::collections::BTreeMap;
@@ -16,9 +16,7 @@ use std::marker::Model;
 #[derive(Drop)]
 pub struct Index {
     // For each key that a row has its rows.
-    lists: BTreeMap<Row, RowNos>,
-    // The rows of every other key.
-    none: RowNos,
+    lists: BTreeMap<Row, RowSet>,
     alloc: Global,
 }
 
@@ -33,7 +31,7 @@ impl Model for Index {
 
     ghost view = { λ a. a.lists.entries };
 
-    ghost invariant = { λ a. IsKept a.lists.entries a.none };
+    ghost invariant = { λ a. IsKept a.lists.entries };
 }
 
 impl Index {
@@ -43,19 +41,18 @@ impl Index {
     {
         Index {
             lists: BTreeMap::new(alloc),
-            none: RowNos::new(alloc),
             alloc,
         }
     }
 
     /// The rows of a key, in ascending order: none exactly where no row has it. Takes no memory.
-    pub fn find(&self, key: &Row) -> &RowNos
+    pub fn find(&self, key: &Row) -> &[RowNo]
         ensures rows { result.now ≡ rows_with self.now key.now }
         ensures ascending { IsAscending result.now }
     {
         match self.lists.get(key) {
-            Some(rows) => rows,
-            None => &self.none,
+            Some(rows) => rows.as_slice(),
+            None => &[],
         }
     }
 
@@ -66,11 +63,24 @@ impl Index {
     {
         let alloc = self.alloc;
         if let Some(rows) = self.lists.get_mut(&key) {
-            return put(rows, row, alloc);
+            return rows.put(alloc, row);
         }
-        let mut rows = RowNos::new(alloc);
-        rows.push(row)?;
-        self.lists.insert(key, rows)?;
+        self.lists.insert(key, RowSet::of(row))?;
+        Ok(())
+    }
+
+    /// Puts a row in the place of another under a key, or under the key as `insert` does where that other one isn't there.
+    /// After an `Err`, which is want of memory, nothing is changed.
+    pub fn exchange(&mut self, key: Row, from: RowNo, to: RowNo) -> Result<(), NoMemory>
+        ensures ok { OnOk result (Exchanges self.old self.new key from to) }
+        ensures ascending { (k : _) → IsAscending (rows_with self.old k) }
+        ensures err { OnErr result (self.new ≡ self.old) }
+    {
+        let alloc = self.alloc;
+        if let Some(rows) = self.lists.get_mut(&key) {
+            return rows.exchange(alloc, from, to);
+        }
+        self.lists.insert(key, RowSet::of(to))?;
         Ok(())
     }
 
@@ -86,7 +96,7 @@ impl Index {
 }
 
 // Takes a row out from under a key, and says whether this left the key's list empty.
-fn take_from(lists: &mut BTreeMap<Row, RowNos>, key: &Row, row: RowNo, alloc: Global) -> bool
+fn take_from(lists: &mut BTreeMap<Row, RowSet>, key: &Row, row: RowNo, alloc: Global) -> bool
     requires { (k : _) → IsAscending (rows_with lists.old.entries k) }
     ensures rows { Takes lists.old.entries lists.new.entries key.now row }
     ensures left { IsTrue result ↔ (list_of lists.new.entries key.now ≡ Some []) }
@@ -95,12 +105,12 @@ fn take_from(lists: &mut BTreeMap<Row, RowNos>, key: &Row, row: RowNo, alloc: Gl
     let Some(rows) = lists.get_mut(key) else {
         return false;
     };
-    take(rows, row, alloc);
+    rows.take(alloc, row);
     rows.is_empty()
 }
 
 // Lets the list of a key go.
-fn drop_list(lists: &mut BTreeMap<Row, RowNos>, key: &Row)
+fn drop_list(lists: &mut BTreeMap<Row, RowSet>, key: &Row)
     ensures { (k : _) → list_of lists.new.entries k ≡ (if same_key key.now k then None else list_of lists.old.entries k) }
 {
     let _gone = lists.remove(key);

@@ -35,6 +35,28 @@ pub fn has_null(key: &[Value]) -> bool
     key.iter().any(is_null)
 }
 
+/// Whether the key that a row has in these columns has a NULL. Takes no memory.
+pub fn has_gap(columns: &[u32], row: &[Value]) -> bool
+    ensures { result ≡ spec.has_null (spec.key_in columns.now row.now) }
+{
+    for column in columns {
+        if is_gap(row, *column) {
+            return true;
+        }
+    }
+    false
+}
+
+// Whether the value in a column is NULL, as it is where there is no such column.
+fn is_gap(row: &[Value], column: u32) -> bool
+    ensures { result ≡ spec.is_null (spec.value_at row.now column) }
+{
+    match row.get(column as usize) {
+        Some(value) => is_null(value),
+        None => true,
+    }
+}
+
 fn is_null(value: &Value) -> bool
     ensures { result ≡ spec.is_null value.now }
 {

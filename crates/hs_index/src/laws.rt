@@ -7,7 +7,7 @@ ghost use Rattle.hs_values.specs.declared.value.Value.{Value};
 ghost use Rattle.hs_values.specs.Key.{key_of};
 ghost use Rattle.hs_index.specs.Keys.{key_in, has_null, same_key};
 ghost use Rattle.hs_index.specs.RowSets.{IsAscending, is_row, has_row, with_row, without_row};
-ghost use Rattle.hs_index.specs.Rows.{Keyed, rows_with, Puts, Takes};
+ghost use Rattle.hs_index.specs.Rows.{Keyed, rows_with, Exchanges, Puts, Takes};
 ghost use Rattle.hs_index.specs.Table.{Rows, IsIndexOf};
 
 /// A set with a row more has that row and those that it had, and a set but for one row has those that it had but for
@@ -26,12 +26,14 @@ pub fn equal_keys_have_one_form()
 {}
 
 /// The index of a table without rows has none. Where a table gets a row, or loses one, and the row is put into its
-/// index under the key that it has, or taken out from under it, the index is that of the table as it is then. A row
-/// whose key has a NULL changes nothing.
+/// index under the key that it has, or taken out from under it, the index is that of the table as it is then. So it is
+/// where a row gets another number, which is put in the place of the first. A row whose key has a NULL changes nothing.
 pub fn the_index_of_a_table_is_kept()
     ensures none { (columns : List ℕ) (keyed : Keyed) → ((key : List Value) → rows_with keyed key ≡ []) → IsIndexOf columns empty keyed }
     ensures put { (columns : List ℕ) (table : Rows) (old new : Keyed) (row : List Value) (r : RowNo) → IsIndexOf columns table old → get table r.0 ≡ None → has_null (key_in columns row) ≡ false → Puts old new (key_in columns row) r → IsIndexOf columns (insert table r.0 row) new }
     ensures put_null { (columns : List ℕ) (table : Rows) (keyed : Keyed) (row : List Value) (r : RowNo) → IsIndexOf columns table keyed → get table r.0 ≡ None → has_null (key_in columns row) ≡ true → IsIndexOf columns (insert table r.0 row) keyed }
     ensures taken { (columns : List ℕ) (table : Rows) (old new : Keyed) (row : List Value) (r : RowNo) → IsIndexOf columns table old → get table r.0 ≡ Some row → ((key : List Value) → IsAscending (rows_with old key)) → Takes old new (key_in columns row) r → IsIndexOf columns (remove table r.0) new }
     ensures taken_null { (columns : List ℕ) (table : Rows) (keyed : Keyed) (row : List Value) (r : RowNo) → IsIndexOf columns table keyed → get table r.0 ≡ Some row → has_null (key_in columns row) ≡ true → IsIndexOf columns (remove table r.0) keyed }
+    ensures exchanged { (columns : List ℕ) (table : Rows) (old new : Keyed) (row : List Value) (from to : RowNo) → IsIndexOf columns table old → get table from.0 ≡ Some row → get (remove table from.0) to.0 ≡ None → ((key : List Value) → IsAscending (rows_with old key)) → has_null (key_in columns row) ≡ false → Exchanges old new (key_in columns row) from to → IsIndexOf columns (insert (remove table from.0) to.0 row) new }
+    ensures exchanged_null { (columns : List ℕ) (table : Rows) (keyed : Keyed) (row : List Value) (from to : RowNo) → IsIndexOf columns table keyed → get table from.0 ≡ Some row → get (remove table from.0) to.0 ≡ None → has_null (key_in columns row) ≡ true → IsIndexOf columns (insert (remove table from.0) to.0 row) keyed }
 {}

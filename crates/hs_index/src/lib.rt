@@ -7,4 +7,4 @@ pub mod laws;
 mod row_set;
 
 pub use index::Index;
-pub use key::{has_null, key_in};
+pub use key::{has_gap, has_null, key_in};

@@ -1,6 +1,6 @@
 -- What an index says of the rows that have a key.
-use Rattle.std.proofs.Common.{◌≡◌, ◌↔◌, IsTrue, ℕ, Bool, true, false, not, ◌&&◌, ◌||◌, cond, List, [], ◌∷◌, map, filter, Option, Some, None, refl, sym, ap, ◌∙◌, T}
-use Rattle.std.proofs.lemmas.Bool.{and_parts, and_from, or_right}
+use Rattle.std.proofs.Common.{◌≡◌, ◌==◌, ℕ, Bool, true, false, not, ◌&&◌, ◌||◌, cond, List, [], ◌∷◌, length, map, filter, Option, Some, None, refl, sym, ap, ◌∙◌, T, arith}
+use Rattle.std.proofs.lemmas.Bool.{and_parts, and_from, ne_eqb, or_right}
 use Rattle.std.proofs.lemmas.Cmp.{ranked}
 use Rattle.std.proofs.lemmas.Map.Lookups.{btree_set_from_contains, exact_unsigned}
 use Rattle.std.specs.BTreeSet.{BTreeSet}
@@ -50,10 +50,9 @@ passes_there p (x ∷ xs) row h is = by (λ there. passes_there p xs row there i
     by more false other h = or_right (p x.0) (list_any (λ r. p r.0) xs) (more h)
 
 -- a set isn't empty where it has a row
-pub not_empty : (list : List RowNo) (b : Bool) → (IsTrue b ↔ (list ≡ [])) → not b ≡ list_any (λ (r : RowNo). true) list
-not_empty [] b h = ap not (h.1 refl)
-not_empty (x ∷ xs) true h = absurd (let no : x ∷ xs ≡ [] = h.0 refl in cc)
-not_empty (x ∷ xs) false h = refl
+pub not_empty : (list : List RowNo) → not (length list == 0) ≡ list_any (λ (r : RowNo). true) list
+not_empty [] = refl
+not_empty (x ∷ xs) = ap not (ne_eqb (length (x ∷ xs)) 0 (λ e. omega (arith, e)))
 
 -- ---- an index
 

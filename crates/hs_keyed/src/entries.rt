@@ -1,9 +1,9 @@
 // Rows with their indexes, one row after another.
-ghost use Rattle.std.specs.Prelude.{◌≡◌, [], OnOk, OnErr};
-ghost use Rattle.std.specs.FinMap.{insert, remove};
-ghost use Rattle.hs_keyed.specs.Kept.{rows_of, AreOf};
+ghost use Rattle.std.specs.Prelude.{◌≡◌, [], None, OnOk, OnErr};
+ghost use Rattle.std.specs.FinMap.{get, insert, remove};
+ghost use Rattle.hs_keyed.specs.Kept.{rows_of, AreOf, moved};
 
-use crate::indexes::{KeyIndex, put_keys, take_keys};
+use crate::indexes::{KeyIndex, exchange_keys, put_keys, take_keys};
 use hs_base::{NoMemory, RowNo};
 use hs_values::Row;
 use std::alloc::Global;
@@ -43,6 +43,48 @@ pub(crate) fn take_entry(
     forget(rows, indexes, alloc, row)?;
     drop_entry(rows, row);
     Ok(())
+}
+
+/// Gives a row another number, where it is there. After an `Err` there are no indexes.
+pub(crate) fn move_entry(
+    rows: &mut BTreeMap<u64, Row>,
+    indexes: &mut Vec<KeyIndex>,
+    alloc: Global,
+    from: RowNo,
+    to: RowNo,
+) -> Result<(), NoMemory>
+    requires { AreOf (rows_of rows.old.entries) indexes.old.items }
+    ensures kept { AreOf (rows_of rows.new.entries) indexes.new.items }
+    ensures ok { OnOk result (rows_of rows.new.entries ≡ moved (rows_of rows.old.entries) from.0 to.0) }
+{
+    let Some(values) = rows.remove(&from.0) else {
+        return Ok(());
+    };
+    exchange_keys(indexes, alloc, from, to, values.as_slice())?;
+    place_entry(rows, indexes, to, values)
+}
+
+// Puts a row among the others. Where there is one of its number, or after an `Err`, there are no indexes.
+fn place_entry(
+    rows: &mut BTreeMap<u64, Row>,
+    indexes: &mut Vec<KeyIndex>,
+    row: RowNo,
+    values: Row,
+) -> Result<(), NoMemory>
+    ensures ok { OnOk result (rows_of rows.new.entries ≡ insert (rows_of rows.old.entries) row.0 values) }
+    ensures kept { (get (rows_of rows.old.entries) row.0 ≡ None → AreOf (insert (rows_of rows.old.entries) row.0 values) indexes.old.items) → AreOf (rows_of rows.new.entries) indexes.new.items }
+{
+    match rows.insert(row.0, values) {
+        Ok(None) => Ok(()),
+        Ok(Some(_)) => {
+            indexes.clear();
+            Ok(())
+        }
+        Err(_back) => {
+            indexes.clear();
+            Err(NoMemory)
+        }
+    }
 }
 
 // Takes a row out from under its keys, where it is there. After an `Err` there are no indexes.

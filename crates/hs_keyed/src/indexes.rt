@@ -5,7 +5,7 @@ ghost use Rattle.hs_index.specs.Table.{Rows, IsIndexOf};
 ghost use Rattle.hs_keyed.specs.Kept.{AreOf};
 
 use hs_base::{NoMemory, RowNo};
-use hs_index::{Index, has_null, key_in};
+use hs_index::{Index, has_gap, key_in};
 use hs_values::Value;
 use sqlite_items::Items;
 use std::alloc::Global;
@@ -28,10 +28,10 @@ impl KeyIndex {
         ensures columns { self.new.columns ≡ self.old.columns }
         ensures ok { OnOk result ((rows : Rows) → get rows row.0 ≡ None → IsIndexOf self.old.columns rows self.old.index → IsIndexOf self.old.columns (insert rows row.0 values.now) self.new.index) }
     {
-        let key = key_in(alloc, self.columns.as_slice(), values)?;
-        if has_null(key.as_slice()) {
+        if has_gap(self.columns.as_slice(), values) {
             return Ok(());
         }
+        let key = key_in(alloc, self.columns.as_slice(), values)?;
         self.index.insert(key, row)
     }
 
@@ -40,12 +40,30 @@ impl KeyIndex {
         ensures columns { self.new.columns ≡ self.old.columns }
         ensures ok { OnOk result ((rows : Rows) → get rows row.0 ≡ Some values.now → IsIndexOf self.old.columns rows self.old.index → IsIndexOf self.old.columns (remove rows row.0) self.new.index) }
     {
-        let key = key_in(alloc, self.columns.as_slice(), values)?;
-        if has_null(key.as_slice()) {
+        if has_gap(self.columns.as_slice(), values) {
             return Ok(());
         }
+        let key = key_in(alloc, self.columns.as_slice(), values)?;
         self.index.remove(&key, row);
         Ok(())
+    }
+
+    // Puts another number in the place of a row's under its key.
+    fn exchange(
+        &mut self,
+        alloc: Global,
+        from: RowNo,
+        to: RowNo,
+        values: &[Value],
+    ) -> Result<(), NoMemory>
+        ensures columns { self.new.columns ≡ self.old.columns }
+        ensures ok { OnOk result ((rows : Rows) → get rows from.0 ≡ Some values.now → get (remove rows from.0) to.0 ≡ None → IsIndexOf self.old.columns rows self.old.index → IsIndexOf self.old.columns (insert (remove rows from.0) to.0 values.now) self.new.index) }
+    {
+        if has_gap(self.columns.as_slice(), values) {
+            return Ok(());
+        }
+        let key = key_in(alloc, self.columns.as_slice(), values)?;
+        self.index.exchange(key, from, to)
     }
 }
 
@@ -117,6 +135,26 @@ pub(crate) fn take_keys(
 {
     for i in 0..indexes.len() {
         if indexes[i].take(alloc, row, values).is_err() {
+            indexes.clear();
+            return Err(NoMemory);
+        }
+    }
+    Ok(())
+}
+
+/// Puts another number in the place of a row's under its keys. After an `Err` there are no indexes.
+pub(crate) fn exchange_keys(
+    indexes: &mut Vec<KeyIndex>,
+    alloc: Global,
+    from: RowNo,
+    to: RowNo,
+    values: &[Value],
+) -> Result<(), NoMemory>
+    ensures ok { OnOk result ((rows : Rows) → get rows from.0 ≡ Some values.now → get (remove rows from.0) to.0 ≡ None → AreOf rows indexes.old.items → AreOf (insert (remove rows from.0) to.0 values.now) indexes.new.items) }
+    ensures err { OnErr result (indexes.new.items ≡ []) }
+{
+    for i in 0..indexes.len() {
+        if indexes[i].exchange(alloc, from, to, values).is_err() {
             indexes.clear();
             return Err(NoMemory);
         }

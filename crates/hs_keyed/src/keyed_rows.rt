@@ -5,11 +5,12 @@ ghost use Rattle.std.specs.Option.{option_copied};
 ghost use Rattle.hs_sentences.specs.Asking.{any_row};
 ghost use Rattle.hs_sentences.specs.Sentences.{carries};
 ghost use Rattle.hs_keyed.specs.Found.{carries_too};
+ghost use Rattle.hs_keyed.specs.Kept.{moved};
 ghost use Rattle.hs_rows.specs.Numbers.{IsBehind, next_in, numbers_with};
 
 use crate::behind::row_behind;
 use crate::copying::copied;
-use crate::entries::{put_entry, take_entry};
+use crate::entries::{move_entry, put_entry, take_entry};
 use crate::indexes::{KeyIndex, columns_among, index_over};
 use crate::row_test::{Carries, CarriesToo, RowTest};
 use crate::scan::{any_entry, has_another, index_of, numbers_in};
@@ -107,6 +108,14 @@ impl KeyedRows {
         take_entry(&mut self.rows, &mut self.indexes, self.alloc, row)
     }
 
+    /// Gives a row another number, where it is there. After an `Err`, which is want of memory, nothing is known of the rows,
+    /// and there is no index any more.
+    pub fn renumber(&mut self, from: RowNo, to: RowNo) -> Result<(), NoMemory>
+        ensures { OnOk result (self.new ≡ moved self.old from.0 to.0) }
+    {
+        move_entry(&mut self.rows, &mut self.indexes, self.alloc, from, to)
+    }
+
     /// Makes an index over these columns, which are places in a row from 0. An `Err` is want of memory.
     pub fn add_index(&mut self, columns: &[u32]) -> Result<(), NoMemory>
         ensures { self.new ≡ self.old }
@@ -161,7 +170,7 @@ impl KeyedRows {
         ensures { IfOk result (λ found. map (λ r. r.0) found ≡ numbers_with columns.now key.now self.now) }
     {
         match index_over(&self.indexes, columns) {
-            Some(index) => index.find(key).copy(),
+            Some(index) => Ok(RowNos::from_vec(Vec::from_slice(self.alloc, index.find(key))?)),
             None => numbers_in(self.alloc, &self.rows, columns, key),
         }
     }

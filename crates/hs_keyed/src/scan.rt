@@ -56,11 +56,7 @@ pub fn numbers_in(
 pub(crate) fn has_another(index: &Index, key: &Row, number: RowNo) -> bool
     ensures { result ≡ list_any (λ r. not (r.0 == number.0)) (rows_with index.now key.now) }
 {
-    index
-        .find(key)
-        .as_slice()
-        .iter()
-        .any(|row| row.0 != number.0)
+    index.find(key).iter().any(|row| row.0 != number.0)
 }
 
 /// The index of these rows over these columns.

@@ -51,9 +51,14 @@ struct Both {
 }
 
 impl Both {
-    // A random change, one in three of which takes a row out.
+    // A random change, some of which take a row out or give it another number.
     fn change(&mut self, alloc: Global, random: &mut Random) -> Result<(), NoMemory> {
         let row = RowNo(random.below(12));
+        let to = RowNo(random.below(12));
+        if random.below(4) == 0 && self.bare.get(to).is_none() {
+            self.keyed.renumber(row, to)?;
+            return self.bare.renumber(row, to);
+        }
         if random.below(3) == 0 {
             self.keyed.take(row)?;
             return self.bare.take(row);
@@ -129,6 +134,27 @@ fn rows_are_put_and_taken(rt: HostRuntime) -> Result<(), Fail> {
     rows.take(RowNo(6))?;
     assert!(rt; !rows.has_key(&[0], &one)?);
     assert!(rt; rows.get(RowNo(7)).is_some() && rows.get(RowNo(5)).is_none());
+    Ok(())
+}
+
+#[test]
+fn a_row_gets_another_number(rt: HostRuntime) -> Result<(), Fail> {
+    let alloc = rt.alloc();
+    let mut rows = KeyedRows::new(alloc);
+    let mut one = Row::new(alloc);
+    one.push(Value::Int(1))?;
+    rows.add_index(&[0])?;
+    for row in [9, 3, 5] {
+        put_copy(&mut rows, row, &one)?;
+    }
+    rows.renumber(RowNo(9), RowNo(4))?;
+    rows.renumber(RowNo(8), RowNo(2))?;
+    let found = rows.rows_with(&[0], &one)?;
+    assert_eq!(rt; found.as_slice(), [RowNo(3), RowNo(4), RowNo(5)].as_slice());
+    assert!(rt; rows.get(RowNo(9)).is_none() && rows.get(RowNo(4)).is_some());
+    rows.renumber(RowNo(3), RowNo(5))?;
+    let found = rows.rows_with(&[0], &one)?;
+    assert_eq!(rt; found.as_slice(), [RowNo(4), RowNo(5)].as_slice());
     Ok(())
 }
 

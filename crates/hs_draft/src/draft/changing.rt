@@ -5,6 +5,7 @@ ghost use Rattle.std.specs.Option.{option_copied, unwrap_or};
 ghost use Rattle.hs_changes.specs.Settings.{with_values, set_row};
 ghost use Rattle.hs_sentences.specs.Asking.{is_one_of};
 ghost use Rattle.hs_draft.specs.Drafted.{after, before, touched, rows_at, old_of, old_in};
+ghost use Rattle.hs_keyed.specs.Kept.{moved};
 
 use crate::draft::Draft;
 use hs_base::{NoMemory, RowNo, TableNo};
@@ -60,6 +61,13 @@ impl Draft {
         let old = copied(self.rows(table).get(row))?;
         remember(&mut self.olds, self.alloc, table, row, old)?;
         take_from(&mut self.tables, table, row)
+    }
+
+    /// Gives a row another number, where it is there. An `Err` is want of memory, and then nothing is known of the rows.
+    pub fn renumber(&mut self, table: TableNo, from: RowNo, to: RowNo) -> Result<(), NoMemory>
+        ensures { OnOk result ((t : ℕ) → after self.new t ≡ (if t == table.0 then moved (after self.old t) from.0 to.0 else after self.old t)) }
+    {
+        renumber_in(&mut self.tables, table, from, to)
     }
 
     /// The rows as they are count as those before the changes to come. Takes no memory.
@@ -143,6 +151,20 @@ fn take_from(
 {
     if let Some(rows) = tables.get_mut(&table.0) {
         return rows.take(row);
+    }
+    Ok(())
+}
+
+fn renumber_in(
+    tables: &mut BTreeMap<u64, KeyedRows>,
+    table: TableNo,
+    from: RowNo,
+    to: RowNo,
+) -> Result<(), NoMemory>
+    ensures { OnOk result ((t : ℕ) → rows_at tables.new.entries t ≡ (if t == table.0 then moved (rows_at tables.old.entries t) from.0 to.0 else rows_at tables.old.entries t)) }
+{
+    if let Some(rows) = tables.get_mut(&table.0) {
+        return rows.renumber(from, to);
     }
     Ok(())
 }

@@ -14,6 +14,6 @@ returns-in_default-clause-rows c =
 
 pub returns-clause-rows : goal.returns-clause-rows
 returns-clause-rows c =
-    let up = (c.get_mut.follows.holds c.take.new.rows).3 (search rules) in
-    takes_from c.args.lists.now.entries (c.get_mut.follows.lender c.take.new.rows).entries c.args.key.now c.args.row (Some c.take.new.rows) up.0
+    let up = (c.get_mut.follows.holds c.take.new.self).3 (search rules) in
+    takes_from c.args.lists.now.entries (c.get_mut.follows.lender c.take.new.self).entries c.args.key.now c.args.row (Some c.take.new.self) up.0
     (c.take.ensures ∙ ap (λ o. without_row c.args.row (unwrap_or o [])) c.in-Some.ensures.value)

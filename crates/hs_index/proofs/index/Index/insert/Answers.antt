@@ -1,4 +1,4 @@
-use Rattle.std.proofs.Common.{rules, cond, [], ◌∷◌, ◌++◌, Some, inl, inr, sym, ap, subst, ◌∙◌}
+use Rattle.std.proofs.Common.{rules, cond, [], Some, inl, inr, sym, ap, subst, ◌∙◌}
 use Rattle.std.proofs.lemmas.Map.Steps.{set_value_same}
 use Rattle.std.proofs.lemmas.Result.{on_ok_weaker, on_err_weaker}
 use Rattle.std.specs.Option.{unwrap_or}
@@ -14,39 +14,39 @@ put-requires c = subst IsAscending (ap (λ o. unwrap_or o []) (sym c.in-Some.ens
 pub invariant_of-self : goal.invariant_of-self
 invariant_of-self c =
     let old = c.self.inside.lists.entries in
-    let new = (c.get_mut.follows.lender c.put.new.rows).entries in
-    let up = (c.get_mut.follows.holds c.put.new.rows).3 (search rules) in
+    let new = (c.get_mut.follows.lender c.put.new.self).entries in
+    let up = (c.get_mut.follows.holds c.put.new.self).3 (search rules) in
     elim (ok_or_err c.put.result c.put.ensures.ok c.put.ensures.err) [
-      | inl more ↦ kept_after_put old new c.args.key c.args.row c.put.new.rows c.self.inside.none c.self.invariant up.0 (more ∙ ap (λ o. with_row c.args.row (unwrap_or o [])) c.in-Some.ensures.value)
-      | inr same ↦ kept_after_same old new c.args.key c.put.new.rows c.self.inside.none c.self.invariant up.0 (sym c.in-Some.ensures.value ∙ ap (λ rows. Some rows) (sym same))
+      | inl more ↦ kept_after_put old new c.args.key c.args.row c.put.new.self c.self.invariant up.0 (more ∙ ap (λ o. with_row c.args.row (unwrap_or o [])) c.in-Some.ensures.value)
+      | inr same ↦ kept_after_same old new c.args.key c.put.new.self c.self.invariant up.0 (sym c.in-Some.ensures.value ∙ ap (λ rows. Some rows) (sym same))
     ]
 
 pub returns-in-Some-clause-ok : goal.returns-in-Some-clause-ok
 returns-in-Some-clause-ok c =
-    let new = (c.get_mut.follows.lender c.put.new.rows).entries in
-    let up = (c.get_mut.follows.holds c.put.new.rows).3 (search rules) in
+    let new = (c.get_mut.follows.lender c.put.new.self).entries in
+    let up = (c.get_mut.follows.holds c.put.new.self).3 (search rules) in
     on_ok_weaker c.put.result
     (λ more. subst (λ (old : Keyed). Puts old new c.args.key c.args.row) c.self.view_is
-    (puts_from c.self.inside.lists.entries new c.args.key c.args.row c.put.new.rows up.0 (more ∙ ap (λ o. with_row c.args.row (unwrap_or o [])) c.in-Some.ensures.value)))
+    (puts_from c.self.inside.lists.entries new c.args.key c.args.row c.put.new.self up.0 (more ∙ ap (λ o. with_row c.args.row (unwrap_or o [])) c.in-Some.ensures.value)))
     c.put.ensures.ok
 
 pub returns-in-Some-clause-err : goal.returns-in-Some-clause-err
 returns-in-Some-clause-err c =
     on_err_weaker c.put.result
-    (λ same. (c.get_mut.follows.holds c.put.new.rows).0 ∙ set_value_same (same_key c.args.key) c.self.inside.lists.entries c.put.new.rows (sym c.in-Some.ensures.value ∙ ap (λ rows. Some rows) (sym same)) ∙ c.self.view_is)
+    (λ same. (c.get_mut.follows.holds c.put.new.self).0 ∙ set_value_same (same_key c.args.key) c.self.inside.lists.entries c.put.new.self (sym c.in-Some.ensures.value ∙ ap (λ rows. Some rows) (sym same)) ∙ c.self.view_is)
     c.put.ensures.err
 
 pub invariant_of-self-2 : goal.invariant_of-self-2
 invariant_of-self-2 c =
-    let list = c.push.new.self in
-    kept_after_put c.self.inside.lists.entries c.insert.new.self.entries c.args.key c.args.row list c.self.inside.none c.self.invariant
+    let list = c.of.result in
+    kept_after_put c.self.inside.lists.entries c.insert.new.self.entries c.args.key c.args.row list c.self.invariant
     (λ k. c.in_ok-insert.ensures.updates.0 k ∙ ap (λ (m : _). cond (same_key c.args.key k) (Some list) (list_of m.entries k)) c.get_mut.follows.holds-at-none)
-    (c.in_ok-push.ensures.ok ∙ ap (λ rows. rows ++ c.args.row ∷ []) c.new-rows.ensures ∙ ap (λ o. with_row c.args.row (unwrap_or o [])) c.in_default.ensures.value)
+    (c.of.ensures ∙ ap (λ o. with_row c.args.row (unwrap_or o [])) c.in_default.ensures.value)
 
 pub returns-clause-ok : goal.returns-clause-ok
 returns-clause-ok c =
-    let list = c.push.new.self in
+    let list = c.of.result in
     subst (λ (old : Keyed). Puts old c.insert.new.self.entries c.args.key c.args.row) c.self.view_is
     (puts_from c.self.inside.lists.entries c.insert.new.self.entries c.args.key c.args.row list
     (λ k. c.in_ok-insert.ensures.updates.0 k ∙ ap (λ (m : _). cond (same_key c.args.key k) (Some list) (list_of m.entries k)) c.get_mut.follows.holds-at-none)
-    (c.in_ok-push.ensures.ok ∙ ap (λ rows. rows ++ c.args.row ∷ []) c.new-rows.ensures ∙ ap (λ o. with_row c.args.row (unwrap_or o [])) c.in_default.ensures.value))
+    (c.of.ensures ∙ ap (λ o. with_row c.args.row (unwrap_or o [])) c.in_default.ensures.value))

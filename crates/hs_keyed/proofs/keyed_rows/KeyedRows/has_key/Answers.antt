@@ -1,4 +1,4 @@
-use Rattle.std.proofs.Common.{true, List, sym, ap, subst, ◌∙◌}
+use Rattle.std.proofs.Common.{not, true, List, sym, ap, subst, ◌∙◌}
 use Rattle.std.specs.List.{list_any}
 use Rattle.hs_base.specs.declared.numbers.RowNo.{RowNo}
 use Rattle.hs_sentences.specs.Asking.{any_row}
@@ -12,7 +12,8 @@ pub returns-in-Some : goal.returns-in-Some
 returns-in-Some c =
     let rows = rows_of c.self.inside.rows.entries in
     let is = c.in-Some.ensures rows (subst (λ (all : List KeyIndex). AreOf rows all) (sym c.deref.ensures.value) c.self.invariant) in
-    not_empty c.find.result.now c.is_empty.result c.is_empty.ensures
+    ap not c.is_empty.ensures
+    ∙ not_empty c.find.result.now
     ∙ ap (list_any (λ (r : RowNo). true)) c.find.ensures.rows
     ∙ index_tells c.args.columns.now rows c.in-Some.index.now is c.args.key.now (λ n. true)
     ∙ ap (any_row (carries c.args.columns.now c.args.key.now)) c.self.view_is
