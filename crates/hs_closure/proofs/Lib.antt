@@ -1,3 +1,4 @@
+pub mod Inserts
 pub mod Answered
 pub mod Closing
 pub mod Exact

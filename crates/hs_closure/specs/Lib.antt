@@ -1,3 +1,4 @@
+pub mod Alone
 pub mod Changing
 pub mod Sets
 pub mod Steps

@@ -2,6 +2,7 @@
 //! may change by their actions, and which tables the constraints of these look at.
 #![tactic(auto)]
 
+mod alone;
 mod changing;
 mod neighbours;
 mod table_set;

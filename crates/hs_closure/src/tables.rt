@@ -6,6 +6,7 @@ ghost use Rattle.hs_base.specs.declared.numbers.TableNo.{TableNo};
 ghost use Rattle.hs_closure.specs.Changing as spec;
 ghost use Rattle.hs_closure.specs.Sets.{is_in};
 
+use crate::alone::{only, put_into, reads_none};
 use crate::changing::{add_others, changed_tables};
 use crate::neighbours::add_all_neighbours;
 use crate::table_set::TableSet;
@@ -50,6 +51,9 @@ pub fn tables_written(alloc: Global, plan: &Plan, cat: &Catalog) -> Result<Table
     ensures ascending { IfOk result (λ tables. IsStrictlyIncreasing (map (λ t. t.0) tables)) }
     ensures written { IfOk result (λ tables. (table : TableNo) → Contains tables table ↔ spec.IsWritten cat.now plan.now table) }
 {
+    if let Some(table) = put_into(plan) {
+        return only(alloc, table);
+    }
     let set = written(alloc, plan, cat)?;
     let none = TableSet::new(alloc);
     set.list_without(alloc, &none)
@@ -62,6 +66,9 @@ pub fn tables_read(alloc: Global, plan: &Plan, cat: &Catalog) -> Result<Tables, 
     ensures ascending { IfOk result (λ tables. IsStrictlyIncreasing (map (λ t. t.0) tables)) }
     ensures read { IfOk result (λ tables. (table : TableNo) → Contains tables table ↔ spec.IsRead cat.now plan.now table) }
 {
+    if reads_none(alloc, plan, cat)? {
+        return Ok(Tables::new(alloc));
+    }
     let written = written(alloc, plan, cat)?;
     let set = needed(alloc, plan, cat, &written)?;
     set.list_without(alloc, &written)
