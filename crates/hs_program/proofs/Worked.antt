@@ -150,8 +150,8 @@ module _ (m : Meaning) (law : IsLawful m) (files : Five (List ℕ)) (input befor
     reopens = λ opened is done. absurd (idle_never status Done idle refl done);
     others = refl;
     crash = λ quiet opened is. since_none _ start;
-    safe = λ quiet opened is has. start_safe m files opened input before start.now is quiet first;
-    left = λ quiet opened is has. same_survives m files.log opened input before before files.log is refl (same_gives m files.log files.log refl);
+    safe = λ quiet opened is has. start_safe m law files opened input before start.now is quiet first;
+    left = λ quiet opened is has. same_survives m law files.log opened input before before files.log is refl (same_gives m files.log files.log refl);
     begun = λ unborn. inl unborn;
     alone = λ quiet. since_none _ start;
     damaged = λ number is. absurd (idle_never status (Damaged (Log number)) idle refl is);
@@ -175,10 +175,10 @@ module _ (m : Meaning) (law : IsLawful m) (files : Five (List ℕ)) (input befor
         (invalid : (name : List ℕ) → why ≡ fault.Invalid name → IsInvalid m files.log name × IsInvalidAlone m files.log name × (after ≡ files))
         (kept : ((number : ℕ) → IsDamagedAt m files.log number → after ≡ files) × ((name : List ℕ) → IsInvalid m files.log name → after ≡ files)) (begun : is_born files.log ≡ false → IsUnbornOrNew after.log) where
       unopened_crash : IsQuiet files start.now → (opened : Opened) → IsOpened m files.log opened → Since (IsKept m files opened input before start.now) start now
-      unopened_crash quiet opened is = since_weaker (found quiet) (λ at. found_kept m files opened input before start.now at is first)
+      unopened_crash quiet opened is = since_weaker (found quiet) (λ at. found_kept m law files opened input before start.now at is first)
 
       unopened_safe : IsQuiet files start.now → (opened : Opened) → IsOpened m files.log opened → HasLog files.log (unopened why) → IsSafe m files.log opened input before now.now
-      unopened_safe quiet opened is (inl born) = born_safe m files opened input before start now is born quiet first (unopened_crash quiet opened is)
+      unopened_safe quiet opened is (inl born) = born_safe m law files opened input before start now is born quiet first (unopened_crash quiet opened is)
       unopened_safe quiet opened is (inr other) = elim (damage_of why other.0 other.1) [
         | inl by ↦ absurd ((damaged by.0 by.1).1.nothing opened is)
         | inr by ↦ absurd ((invalid by.0 by.1).1.nothing opened is)
@@ -248,7 +248,7 @@ module _ (m : Meaning) (law : IsLawful m) (files : Five (List ℕ)) (input befor
       turned_left = left_now m files.log opened input before now.now out after.log turned_safe last leaves
 
       turned_crash : IsQuiet files start.now → Since (IsKept m files opened input before start.now) start now
-      turned_crash quiet = since_join (since_weaker (found quiet) (λ at. found_kept m files opened input before start.now at is first)) (since_weaker each_safe (λ at safe. inr safe))
+      turned_crash quiet = since_join (since_weaker (found quiet) (λ at. found_kept m law files opened input before start.now at is first)) (since_weaker each_safe (λ at safe. inr safe))
 
       -- what the log gives is this
       same : (o : Opened) → IsOpened m files.log o → opened ≡ o

@@ -1,5 +1,5 @@
 -- What is ahead of a run over a log, and what it tells, makes and ends with.
-use Rattle.std.specs.Prelude.{ℕ, List, take}
+use Rattle.std.specs.Prelude.{ℕ, List, length, take}
 use Rattle.hs_entries.specs.Items.{items, whole_items}
 use Rattle.hs_run.specs.Future.{Future}
 use Rattle.hs_run.specs.Pieces.{made_by, transcript, transcript_within}
@@ -23,6 +23,10 @@ texts_from f input = made_by (pieces f (items 1 input))
 abbrev pub ahead : Meaning → List ℕ → Opened → Future
 ahead m log opened = m.future opened (size_at log)
 
--- what there is when that run has ended
+-- what there is behind the first so many commits of that run
+abbrev pub after_commits : Meaning → List ℕ → Opened → List ℕ → ℕ → Opened
+after_commits m log opened input count = m.behind opened (size_at log) (items 1 input) count
+
+-- what there is when it has ended: behind all of them
 abbrev pub ended_with : Meaning → List ℕ → Opened → List ℕ → Opened
-ended_with m log opened input = m.ended opened (size_at log) (items 1 input)
+ended_with m log opened input = after_commits m log opened input (length (texts_from (ahead m log opened) input))

@@ -6,7 +6,7 @@ use Rattle.hs_host.specs.Files.{Five}
 use Rattle.hs_host.specs.Moments.{Moment, disk_of}
 use Rattle.hs_host.specs.declared.file_kind.FileKind.TheVariants.{Log}
 use Rattle.hs_run.specs.Crash.{AcknowledgesBehind, HasNoLine}
-use Rattle.hs_program.specs.Ahead.{ahead, texts_from}
+use Rattle.hs_program.specs.Ahead.{after_commits, ahead, texts_from}
 use Rattle.hs_program.specs.Meaning.{Meaning, Opened}
 use Rattle.hs_program.specs.Opening.{AreRedone, IsOpened, texts_at}
 
@@ -19,14 +19,13 @@ abbrev pub IsQuiet : Five (List ℕ) → Moment → Type 0
 IsQuiet files m = disk_of m Log ≡ settled files.log
 
 -- These bytes of a log have the commits that a run found, and then the first so many of those that it makes. The next run
--- begins with what these make of what the run found. No later commit was acknowledged, and until the first line is whole
--- none of the run's own is among them.
+-- begins with what there is behind these. No later commit was acknowledged, and until the first line is whole none of the run's own is
+-- among them.
 pub record Survives (m : Meaning) (old : List ℕ) (opened : Opened) (input before out log : List ℕ) : Type 0 where
   pub by : PointSurvives (point_of old) (texts_from (ahead m old opened) input) 0 (point_of log)
-  pub state : Opened
-  pub made : AreRedone m opened (take by.count (texts_from (ahead m old opened) input)) state
-  pub reopens : IsOpened m log state
-  pub told : AcknowledgesBehind before out state.commits
+  pub made : AreRedone m opened (take by.count (texts_from (ahead m old opened) input)) (after_commits m old opened input by.count)
+  pub reopens : IsOpened m log (after_commits m old opened input by.count)
+  pub told : AcknowledgesBehind before out (after_commits m old opened input by.count).commits
   pub begun : HasNoLine before out → by.count ≡ 0
 
 -- so it is whatever a crash at this moment leaves of the log

@@ -1,5 +1,5 @@
 -- What is asked of a database that is run.
-use Rattle.std.specs.Prelude.{◌≡◌, ℕ, ◌+◌, List, ◌++◌, None}
+use Rattle.std.specs.Prelude.{◌≡◌, ℕ, ◌+◌, List, ◌++◌, length, None}
 use Rattle.hs_entries.specs.declared.item.Item.{Item}
 use Rattle.hs_run.specs.Items.{AreTold}
 use Rattle.hs_run.specs.Pieces.{made_by}
@@ -17,17 +17,15 @@ abbrev pub texts_over : Meaning → Opened → ℕ → List Item → List (List 
 texts_over m opened size items = made_by (pieces (m.future opened size) items)
 
 -- Each text is a commit. Before any commit no constraint is violated. Over what a run may begin with, whatever size the log has,
--- nothing is told of a commit that isn't made. Over items such as an input has, the texts that are made make again what there is
--- in the end, and this violates no constraint. Any first ones of them make something that violates none.
+-- nothing is told of a commit that isn't made. Over items such as an input has, the first ones of the texts that are made, however many,
+-- make again what there is behind the first commits, and this violates no constraint.
 pub record IsLawful (m : Meaning) : Type 0 where
   pub counts : (opened next : Opened) (text : List ℕ) → m.Redone opened text next → next.commits ≡ opened.commits + 1
   pub starts : m.violated (nothing_logged m) ≡ None
   pub begins : (opened : Opened) (size : ℕ) → (m.future opened size).commits ≡ opened.commits
   pub is_true : (opened : Opened) (size : ℕ) → IsSound m opened → IsTrue (m.future opened size)
-  pub remade : (opened : Opened) (size : ℕ) → IsSound m opened → (items : List Item) → AreTold items → AreRedone m opened (texts_over m opened size items) (m.ended opened size items)
-  pub ends : (opened : Opened) (size : ℕ) → IsSound m opened → (items : List Item) → AreTold items → m.violated (m.ended opened size items) ≡ None
-  pub valid : (opened : Opened) (size : ℕ) → IsSound m opened → (items : List Item) → AreTold items → (front rest : List (List ℕ)) → texts_over m opened size items ≡ front ++ rest
-      → (next : Opened) × (AreRedone m opened front next × (m.violated next ≡ None))
+  pub remade : (opened : Opened) (size : ℕ) → IsSound m opened → (items : List Item) → AreTold items → (front rest : List (List ℕ)) → texts_over m opened size items ≡ front ++ rest
+      → AreRedone m opened front (m.behind opened size items (length front)) × (m.violated (m.behind opened size items (length front)) ≡ None)
 
 -- This stands for what some texts made.
 pub record IsStanding {E : Type 0} (m : Meaning) (stands_for : E → Opened → Type 0) (engine : E) : Type 0 where

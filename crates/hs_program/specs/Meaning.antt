@@ -12,14 +12,14 @@ pub record Opened : Type 0 where
   pub commits : ℕ
 
 -- The database before any commit; which text makes what of what those before it made; the name of the first constraint that is
--- violated, none where none is; what is ahead of a run over that, where the log has so many bytes; and what there is when a run
--- over these items has ended.
+-- violated, none where none is; what is ahead of a run over that, where the log has so many bytes; and what there is behind the first
+-- so many commits of a run over these items.
 pub record Meaning : Type 1 where
   pub empty : Database
   pub Redone : Opened → List ℕ → Opened → Type 0
   pub violated : Opened → Option (List ℕ)
   pub future : Opened → ℕ → Future
-  pub ended : Opened → ℕ → List Item → Opened
+  pub behind : Opened → ℕ → List Item → ℕ → Opened
 
 abbrev pub nothing_logged : Meaning → Opened
 nothing_logged m = record { database = m.empty; last = None; commits = 0 }

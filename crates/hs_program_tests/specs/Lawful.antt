@@ -70,9 +70,5 @@ is_lawful = record {
   starts = refl;
   begins = λ opened size. refl;
   is_true = λ opened size sound items told. silent_true opened.commits items;
-  remade = λ opened size sound items told. all_made (made_by (pieces (silent_future opened.commits) items)) opened (all_short items told);
-  ends = λ opened size sound items told. sound.valid;
-  valid = λ opened size sound items told front rest all.
-      let short = first_short front rest (subst AreShort all (all_short items told)) in
-      (with_commits (length front) opened, (all_made front opened short, sound.valid));
+  remade = λ opened size sound items told front rest all. (all_made front opened (first_short front rest (subst AreShort all (all_short items told))), sound.valid);
 }

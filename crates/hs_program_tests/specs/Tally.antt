@@ -33,5 +33,5 @@ tallied = record {
   Redone = λ opened text next. next ≡ counted opened text;
   violated = short_violated;
   future = λ opened size. silent_future opened.commits;
-  ended = λ opened size items. with_commits (length (made_by (pieces (silent_future opened.commits) items))) opened;
+  behind = λ opened size items count. with_commits count opened;
 }

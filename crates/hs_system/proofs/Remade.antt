@@ -7,6 +7,7 @@ use Rattle.std.proofs.lemmas.List.Sums.{fold-append}
 use Rattle.hs_turns.specs.Database.{Database}
 use Rattle.hs_turns.specs.Numbers.{numbered}
 use Rattle.hs_entries.specs.declared.item.Item.{Item}
+use Rattle.hs_futures.proofs.Texts.{length-texts}
 use Rattle.hs_futures.proofs.Whole.{whole_made}
 use Rattle.hs_gate.specs.Groups.{spelled}
 use Rattle.hs_turns.specs.Histories.{Commit, make, now, state}
@@ -23,7 +24,7 @@ use Rattle.hs_turns.specs.Machine.{start}
 use Rattle.hs_turns.specs.Turns.{weight}
 use Rattle.hs_turns.proofs.Promised.{valid}
 use Rattle.hs_system.specs.Governed.{IsGoverned}
-use Rattle.hs_system.specs.Openings.{IsSound, Make, ended_at, history_of, log_at, may, room_behind, texts_of, world_of}
+use Rattle.hs_system.specs.Openings.{IsSound, Make, behind_at, first_of, history_of, log_at, may, room_behind, texts_of, world_of}
 use Rattle.hs_system.specs.Room.{HadRoom}
 use Rattle.hs_system.specs.System.{System}
 use Rattle.hs_system.proofs.Grounded.{made_regular}
@@ -118,9 +119,6 @@ module _ (is_named : Things → Bool) (Regular : Database → Type 0) (y : Syste
   texts_are : (items : List Item) → texts_of y at made size items ≡ texts_from w [] (all items)
   texts_are items = whole_made w items
 
-  pub remade_so : (items : List Item) → Make y at (texts_of y at made size items) (ended_at y at made size items)
-  remade_so items = subst (λ (ts : List (List ℕ)). Make y at ts (ended_at y at made size items)) (sym (texts_are items)) (from_start (all items) (room_had items))
-
   clean : (texts : List (List ℕ)) → IsSound y texts at → (items : List Item) (front later : List Commit) → all items ≡ front ++ later → y.violated (At front).database ≡ None
   clean texts sound items front later is =
       let room = room_behind y at size in
@@ -130,17 +128,29 @@ module _ (is_named : Things → Bool) (Regular : Database → Type 0) (y : Syste
       let same : state at.database (all items) (length front) ≡ now at.database front = ap (λ (l : List Commit). now at.database (take (length front) l)) is ∙ ap (now at.database) (take-append_seam front later) in
       g.valid room (now at.database front) (subst (λ (db : Database). w.run.dialect.is_valid db ≡ true) same ok)
 
-  -- what there is in the end violates nothing
-  pub ends_so : (texts : List (List ℕ)) (items : List Item) → IsSound y texts at → y.violated (ended_at y at made size items).database ≡ None
-  ends_so texts items sound = clean texts sound items (all items) [] (sym (append-nil (all items)))
+  -- ---- its first commits
 
-  pub valid_so : (texts : List (List ℕ)) (items : List Item) (front rest : List (List ℕ)) → IsSound y texts at → texts_of y at made size items ≡ front ++ rest → (next : State) × (Make y at front next × (y.violated next.database ≡ None))
-  valid_so texts items front rest sound is =
-      let p = split w [] (all items) front rest (sym (texts_are items) ∙ is) in
-      let had = had_first w.run.dialect [] p.first p.later (subst (HadRoom w.run.dialect []) p.is (room_had items)) in (
-        At p.first,
-        (
-          subst (λ (ts : List (List ℕ)). Make y at ts (At p.first)) p.texts (from_start p.first had),
-          clean texts sound items p.first p.later p.is,
-        ),
-      )
+  module _ (items : List Item) (front rest : List (List ℕ)) (is : texts_of y at made size items ≡ front ++ rest) where
+    parts : Parts w [] (all items) front
+    parts = split w [] (all items) front rest (sym (texts_are items) ∙ is)
+
+    as_many : length front ≡ length parts.first
+    as_many = ap length (sym parts.texts) ∙ length-texts w [] parts.first
+
+    first_is : first_of y at made size items (length front) ≡ parts.first
+    first_is = ap (λ (n : ℕ). take n (all items)) as_many ∙ ap (take (length parts.first)) parts.is ∙ take-append_seam parts.first parts.later
+
+    pub first_long : length (first_of y at made size items (length front)) ≡ length front
+    first_long = ap length first_is ∙ sym as_many
+
+    first_had : HadRoom w.run.dialect [] parts.first
+    first_had = had_first w.run.dialect [] parts.first parts.later (subst (HadRoom w.run.dialect []) parts.is (room_had items))
+
+    first_made : Make y at front (At parts.first)
+    first_made = subst (λ (ts : List (List ℕ)). Make y at ts (At parts.first)) parts.texts (from_start parts.first first_had)
+
+  pub remade_so : (texts : List (List ℕ)) (items : List Item) (front rest : List (List ℕ)) → IsSound y texts at → texts_of y at made size items ≡ front ++ rest
+      → Make y at front (behind_at y at made size items (length front)) × (y.violated (behind_at y at made size items (length front)).database ≡ None)
+  remade_so texts items front rest sound is =
+      let p = parts items front rest is in
+      subst (λ (ks : List Commit). Make y at front (At ks) × (y.violated (At ks).database ≡ None)) (sym (first_is items front rest is)) (first_made items front rest is, clean texts sound items p.first p.later p.is)

@@ -7,7 +7,7 @@ use Rattle.hs_entries.specs.declared.item.Item.{Item}
 use Rattle.hs_program.specs.Meaning.{Meaning, Opened}
 use Rattle.hs_logged.specs.Redone.{IsRedone, State}
 use Rattle.hs_seams.specs.World.{World}
-use Rattle.hs_system.specs.Openings.{ended_at, future_at, history_of, may, world_of}
+use Rattle.hs_system.specs.Openings.{behind_at, first_of, future_at, may, world_of}
 use Rattle.hs_system.specs.System.{System}
 
 -- ---- sessions by their numbers
@@ -37,10 +37,10 @@ module _ (y : System) where
   abbrev pub world_at : Opened → ℕ → World
   world_at opened size = world_of y (state_of opened) opened.commits size
 
-  -- what there is when a run over these items has ended
-  abbrev pub ended_over : Opened → ℕ → List Item → Opened
-  ended_over opened size items =
-      opened_as (ended_at y (state_of opened) opened.commits size items) (opened.commits + length (history_of y (state_of opened) opened.commits size items).commits)
+  -- what there is behind the first so many commits of a run over these items
+  abbrev pub behind_over : Opened → ℕ → List Item → ℕ → Opened
+  behind_over opened size items count =
+      opened_as (behind_at y (state_of opened) opened.commits size items count) (opened.commits + length (first_of y (state_of opened) opened.commits size items count))
 
   abbrev pub meaning_of : Meaning
   meaning_of = record {
@@ -48,5 +48,5 @@ module _ (y : System) where
     Redone = Makes;
     violated = λ opened. y.violated opened.database;
     future = λ opened size. future_at y (state_of opened) opened.commits size;
-    ended = ended_over;
+    behind = behind_over;
   }

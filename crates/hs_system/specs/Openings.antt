@@ -1,5 +1,5 @@
 -- What a run is over what the texts of a log made, in a system.
-use Rattle.std.specs.Prelude.{◌≡◌, ℕ, ◌&&◌, Bool, true, List, [], None}
+use Rattle.std.specs.Prelude.{◌≡◌, ℕ, ◌&&◌, Bool, true, List, [], None, take}
 use Rattle.hs_turns.specs.Numbers.{numbered}
 use Rattle.hs_entries.specs.declared.item.Item.{Item}
 use Rattle.hs_futures.specs.Futures.{future_of}
@@ -64,9 +64,13 @@ module _ (y : System) where
   history_of at made size items =
       let w = world_of at made size in history_after w.run.dialect w.run.opening w.run.made items (weight (start w.run.opening items))
 
-  -- the texts of its commits, and what these left
+  -- the texts of its commits
   abbrev pub texts_of : State → ℕ → ℕ → List Item → List (List ℕ)
   texts_of at made size items = made_by (pieces (future_at at made size) items)
 
-  abbrev pub ended_at : State → ℕ → ℕ → List Item → State
-  ended_at at made size items = left_by (log_at at size) (world_of at made size) (history_of at made size items).commits
+  -- the first so many of its commits, and what they left
+  abbrev pub first_of : State → ℕ → ℕ → List Item → ℕ → List Commit
+  first_of at made size items count = take count (history_of at made size items).commits
+
+  abbrev pub behind_at : State → ℕ → ℕ → List Item → ℕ → State
+  behind_at at made size items count = left_by (log_at at size) (world_of at made size) (first_of at made size items count)

@@ -5,7 +5,7 @@ ghost use Rattle.hs_entries.specs.declared.item.Item.{Item};
 ghost use Rattle.hs_logged.specs.Redone.{State};
 ghost use Rattle.hs_run.specs.Running.{IsTrue};
 ghost use Rattle.hs_seams.specs.Stores.{IsWorld};
-ghost use Rattle.hs_system.specs.Openings.{IsSound, Make, ended_at, first, future_at, texts_of, world_of};
+ghost use Rattle.hs_system.specs.Openings.{IsSound, Make, behind_at, first, future_at, texts_of, world_of};
 
 use crate::governed::Governed;
 
@@ -27,9 +27,9 @@ pub fn a_run_over_a_log_tells_the_truth<S: Governed>()
     ensures is_true { (texts : List (List ℕ)) (at : State) (made size : ℕ) → IsSound S.system texts at → IsTrue (future_at S.system at made size) }
 {}
 
-/// The texts of its commits make again what there is when it has ended, and any first ones of them make what violates no constraint.
+/// The first ones of the texts of its commits, however many, make again what there is behind its first commits, and this violates no
+/// constraint.
 pub fn what_a_run_over_a_log_makes_is_made_again<S: Governed>()
-    ensures remade { (at : State) (made size : ℕ) (items : List Item) → Make S.system at (texts_of S.system at made size items) (ended_at S.system at made size items) }
-    ensures valid { (texts : List (List ℕ)) (at : State) (made size : ℕ) (items : List Item) (front rest : List (List ℕ)) → IsSound S.system texts at → texts_of S.system at made size items ≡ front ++ rest
-        → (next : State) × (Make S.system at front next × (S.system.violated next.database ≡ None)) }
+    ensures { (texts : List (List ℕ)) (at : State) (made size : ℕ) (items : List Item) (front rest : List (List ℕ)) → IsSound S.system texts at → texts_of S.system at made size items ≡ front ++ rest
+        → Make S.system at front (behind_at S.system at made size items (length front)) × (S.system.violated (behind_at S.system at made size items (length front)).database ≡ None) }
 {}

@@ -1,8 +1,8 @@
 //! Laws of systems that are run, each on a function that does nothing. Proofs of other crates cite them from `Lawful.antt` in
 //! `proofs/`.
-ghost use Rattle.std.specs.Prelude.{◌≡◌, ◌≤◌, ◌+◌, ◌++◌, ℕ, List, None};
+ghost use Rattle.std.specs.Prelude.{◌≡◌, ◌≤◌, ◌+◌, ◌++◌, ℕ, List, None, length};
 ghost use Rattle.hs_entries.specs.declared.item.Item.{Item};
-ghost use Rattle.hs_system.specs.Meaning.{meaning_of, world_at};
+ghost use Rattle.hs_system.specs.Meaning.{behind_over, meaning_of, world_at};
 ghost use Rattle.hs_program.specs.Lawful.{IsLawful, IsSound, texts_over};
 ghost use Rattle.hs_program.specs.Meaning.{Opened, nothing_logged};
 ghost use Rattle.hs_program.specs.Opening.{AreRedone, IsReached};
@@ -19,17 +19,15 @@ pub fn what_is_opened_has_a_world<S: Governed>()
 {}
 
 /// Each text is a commit, and before any of them no constraint is violated. What is ahead of a run tells of no commit that isn't made.
-/// The texts that it makes make again what there is in the end, and this violates no constraint. Any first ones of them make something
-/// that violates none.
+/// The first ones of the texts that it makes, however many, make again what there is behind its first commits, and this violates no
+/// constraint.
 pub fn a_system_can_be_run<S: Governed>()
     ensures counts { (opened next : Opened) (text : List ℕ) → (meaning_of S.system).Redone opened text next → next.commits ≡ opened.commits + 1 }
     ensures starts { (meaning_of S.system).violated (nothing_logged (meaning_of S.system)) ≡ None }
     ensures begins { (opened : Opened) (size : ℕ) → ((meaning_of S.system).future opened size).commits ≡ opened.commits }
     ensures is_true { (opened : Opened) (size : ℕ) → IsSound (meaning_of S.system) opened → IsTrue ((meaning_of S.system).future opened size) }
-    ensures remade { (opened : Opened) (size : ℕ) (items : List Item) → AreRedone (meaning_of S.system) opened (texts_over (meaning_of S.system) opened size items) ((meaning_of S.system).ended opened size items) }
-    ensures ends { (opened : Opened) (size : ℕ) (items : List Item) → IsSound (meaning_of S.system) opened → (meaning_of S.system).violated ((meaning_of S.system).ended opened size items) ≡ None }
-    ensures valid { (opened : Opened) (size : ℕ) (items : List Item) (front rest : List (List ℕ)) → IsSound (meaning_of S.system) opened → texts_over (meaning_of S.system) opened size items ≡ front ++ rest
-        → (next : Opened) × (AreRedone (meaning_of S.system) opened front next × ((meaning_of S.system).violated next ≡ None)) }
+    ensures remade { (opened : Opened) (size : ℕ) (items : List Item) (front rest : List (List ℕ)) → IsSound (meaning_of S.system) opened → texts_over (meaning_of S.system) opened size items ≡ front ++ rest
+        → AreRedone (meaning_of S.system) opened front (behind_over S.system opened size items (length front)) × ((meaning_of S.system).violated (behind_over S.system opened size items (length front)) ≡ None) }
 {}
 
 /// The system meets all that is asked of a database that is run.

@@ -1,6 +1,6 @@
 use Rattle.hs_system.proofs.Ahead.{begins_so}
 use Rattle.hs_system.specs.Meaning.{state_of}
-use Rattle.hs_system.proofs.Lawful.{ends_opened, remade_opened, true_opened, valid_opened}
+use Rattle.hs_system.proofs.Lawful.{remade_opened, true_opened}
 use Rattle.hs_system.proofs.running.a_system_can_be_run.Goals as goal
 
 pub returns-clause-counts : goal.returns-clause-counts
@@ -16,10 +16,4 @@ pub returns-clause-is_true : goal.returns-clause-is_true
 returns-clause-is_true g c = λ opened size sound. true_opened g.S.Governed.is_named g.S.Governed.regular g.S.Governed.system g.S.Governed.governed opened size sound
 
 pub returns-clause-remade : goal.returns-clause-remade
-returns-clause-remade g c = λ opened size items. remade_opened g.S.Governed.is_named g.S.Governed.regular g.S.Governed.system g.S.Governed.governed opened size items
-
-pub returns-clause-ends : goal.returns-clause-ends
-returns-clause-ends g c = λ opened size items sound. ends_opened g.S.Governed.is_named g.S.Governed.regular g.S.Governed.system g.S.Governed.governed opened size sound items
-
-pub returns-clause-valid : goal.returns-clause-valid
-returns-clause-valid g c = λ opened size items front rest sound is. valid_opened g.S.Governed.is_named g.S.Governed.regular g.S.Governed.system g.S.Governed.governed opened size sound items front rest is
+returns-clause-remade g c = λ opened size items front rest sound is. remade_opened g.S.Governed.is_named g.S.Governed.regular g.S.Governed.system g.S.Governed.governed opened size sound items front rest is
