@@ -1,5 +1,6 @@
 #!/usr/bin/env bash
-# Times the log of the program: durable INSERTs a second beside a plain loop and beside SQLite, and opening.
+# Times the log of the program: durable INSERTs a second beside a plain loop and beside SQLite, from a file and with each
+# reply waited for, and opening.
 #
 # usage: bench/log.sh [FOLDER]      (default: the current folder; the disk under it is what is measured)
 #
@@ -13,7 +14,7 @@ top=$(cd "$(dirname "${BASH_SOURCE[0]}")/.." && pwd)
 work=$(mktemp -d "${1:-.}/hsql-log.XXXXXX")
 memory=$(mktemp -d /dev/shm/hsql-log.XXXXXX)
 trap 'rm -rf "$work" "$memory"' EXIT
-inserts=300
+inserts=1000
 rounds=9
 
 # seconds_of COMMAND..: sets `seconds` of the clock, and `spent` of the processor. Standard input is handed on.
@@ -34,6 +35,7 @@ expect() {
 "$top/bin/hsql" "$work/built" </dev/null >/dev/null
 program="$top/crates/hsql/out/hsql"
 cc -O2 -o "$work/plain_log" "$top/bench/plain_log.c"
+cc -O2 -o "$work/waiting" "$top/bench/waiting.c"
 
 { echo "a: CREATE TABLE T (N BIGINT, M BIGINT);"; inserts_of "$inserts" "a: "; } >"$work/rows"
 {
@@ -42,13 +44,16 @@ cc -O2 -o "$work/plain_log" "$top/bench/plain_log.c"
 } >"$work/rows.sqlite"
 
 # Short rounds of each in turn, since a disk's syncs vary from second to second; the median is of each alone.
-loops=() ours=() theirs=()
+loops=() ours=() waits=() theirs=()
 for ((round = 1; round <= rounds; round++)); do
     seconds_of "$work/plain_log" "$work/plain.$round" "$inserts"
     loops+=("$seconds")
     seconds_of "$program" "$work/ours.$round" <"$work/rows"
     expect "closed at $((inserts + 1))"
     ours+=("$seconds")
+    seconds_of "$work/waiting" "$program" "$work/waits.$round" <"$work/rows"
+    expect "closed at $((inserts + 1))"
+    waits+=("$seconds")
     if command -v sqlite3 >/dev/null; then
         seconds_of sqlite3 "$work/theirs.$round" <"$work/rows.sqlite"
         theirs+=("$seconds")
@@ -56,7 +61,9 @@ for ((round = 1; round <= rounds; round++)); do
 done
 loop=$(median "${loops[@]}")
 our=$(median "${ours[@]}")
+wait=$(median "${waits[@]}")
 echo "$rounds rounds of $inserts durable INSERTs: hsql $(reckon "$inserts / $our") a second, a plain loop $(reckon "$inserts / $loop"), ratio $(reckon "$loop / $our" 2)"
+echo "each reply waited for: $(reckon "$inserts / $wait") a second, ratio to the plain loop $(reckon "$loop / $wait" 2)"
 if [ ${#theirs[@]} -gt 0 ]; then
     their=$(median "${theirs[@]}")
     echo "SQLite (WAL, synchronous FULL, one INSERT a transaction): $(reckon "$inserts / $their") a second, hsql is $(reckon "$their / $our" 2) of it"
