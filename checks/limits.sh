@@ -49,10 +49,12 @@ with open("full.log", "wb") as log:
     log.write(b"\0")
 PY
 same "$((2 ** 30 - 51))" "$(stat -c %s full.log)" "the bytes of the log"
+# A log without the four other files is another program's.
+touch full.script full.script.new full.data full.backup
 
 cat >entries <<'SQL'
 a: INSERT INTO T VALUES ('12345678901');
-a: CREATE TABLE U (N INTEGER);
+a: CREATE TABLE LONGER (NUMBER INTEGER);
 a: START TRANSACTION;
 a: INSERT INTO T VALUES ('12345678901');
 a: COMMIT;
