@@ -55,7 +55,8 @@ pub trait Host: Source {
 
     /// Opens the files of the database `name`, which are `name` with `.script`, `.script.new`, `.log`,
     /// `.data` and `.backup` behind it, and makes missing ones empty. From then on the host has this name,
-    /// but after want of memory. It answers `Foreign` exactly where `name.properties` stands there.
+    /// but after want of memory. It answers `Foreign` exactly where the files are another program's, as they are where
+    /// `name.properties` stands beside them; then it makes and changes none.
     ///
     /// `Fault` comes only where the files can't be opened or made, and then `disk_faults` rose. `NoMemory` may come
     /// where memory is refused.
