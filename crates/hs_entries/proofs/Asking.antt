@@ -8,10 +8,10 @@ use Rattle.hs_entries.specs.declared.place.Place.{Place}
 use Rattle.hs_entries.specs.declared.place.Place.TheVariants.{Between}
 use Rattle.hs_entries.specs.declared.window.Window.{Window}
 use Rattle.hs_entries.specs.Window.{left_of, ahead_of, room_of, IsSound}
-use Rattle.hs_entries.specs.Left.{Left, whole_of, Continues}
+use Rattle.hs_entries.specs.Left.{Left, whole_of, Continues, Takes}
 use Rattle.hs_entries.specs.Items.{items_from, no_items, whole_items, has_item}
-use Rattle.hs_entries.specs.Asking.{given_by, all_gave, AreNeeded, Asks, NeedsMore, Gathers, Asked}
-use Rattle.hs_entries.proofs.LeftSteps.{left_at, continues_trans}
+use Rattle.hs_entries.specs.Asking.{given_by, all_gave, AreNeeded, Asks, Gets, NeedsMore, Gathers, Asked}
+use Rattle.hs_entries.proofs.LeftSteps.{left_at, continues_takes, continues_trans}
 use Rattle.hs_entries.proofs.Looking.{none_at_hand, none_at_hand_within}
 
 pub or_false : (a b : Bool) → a ≡ false → b ≡ false → (a || b) ≡ false
@@ -33,7 +33,7 @@ true_false : {b : Bool} → b ≡ true → b ≡ false → ⊥
 true_false is isnt = let no : true ≡ false = sym is ∙ isnt in cc
 
 -- what holds at an `Err`
-pub match_err : {A B : Type 0} (result : Result A B) (P : B → Type 0) (Q R : Type 0) → IsErrAnd result P → R → MatchResult result (λ _. Q) (λ _. R)
+pub match_err : {A B : Type 0} (result : Result A B) (P : B → Type 0) (Q : A → Type 0) (R : Type 0) → IsErrAnd result P → R → MatchResult result Q (λ _. R)
 match_err (Ok a) P Q R h r = absurd h
 match_err (Err e) P Q R h r = r
 
@@ -73,7 +73,7 @@ module _ {T : Type 0} (reads : T → T → List ℕ → Type 0) where
   asks_at_most_once Needs a c needs (inl same) = asks_none Needs true a c same
   asks_at_most_once Needs a c needs (inr read) = asks_once Needs true a c [] needs read (λ none. refl)
 
-  needed_weaker : (M N : List ℕ → Type 0) (made : List (T × List ℕ)) (a c : T) → ((given : List ℕ) → M given → N given)
+  pub needed_weaker : (M N : List ℕ → Type 0) (made : List (T × List ℕ)) (a c : T) → ((given : List ℕ) → M given → N given)
       → AreNeeded reads M made a c → AreNeeded reads N made a c
   needed_weaker M N [] a c f same = same
   needed_weaker M N (read ∷ before) a c f x = (needed_weaker M N before a read.0 f x.0, ((f (given_by before) x.1.0.0, x.1.0.1), x.1.1))
@@ -128,6 +128,31 @@ module _ {T : Type 0} (reads : T → T → List ℕ → Type 0) where
         rest = λ none. asks.rest (sym (gave_then asks.made g.made g.gave) ∙ none);
       }
 
+  -- an item is taken of what was gathered, or the input has ended
+  pub gathers_gets : (old mid new : List ℕ → Left) (item : Item) (rests : Bool) (a c : T) → Gathers reads old mid a c → ((rest : List ℕ) → Takes (mid rest) item (new rest)) → Gets reads old item new rests a c
+  gathers_gets old mid new item rests a c g takes =
+      record { made = g.made; needed = g.needed; rest = λ none. absurd (true_false g.gave none); takes = λ on rest. continues_takes _ _ _ item (g.on rest) (takes rest) }
+
+  pub gets_over : (old new : List ℕ → Left) (item : Item) (rests : Bool) (a c : T) → rests ≡ true → Asks reads (λ given. NeedsMore (old given)) rests a c → Gets reads old item new rests a c
+  gets_over old new item rests a c over asks = record { made = asks.made; needed = asks.needed; rest = asks.rest; takes = λ on rest. absurd (true_false over on) }
+
+  pub gets_asks : (old new : List ℕ → Left) (item : Item) (rests : Bool) (a c : T) → Gets reads old item new rests a c → Asks reads (λ given. NeedsMore (old given)) rests a c
+  gets_asks old new item rests a c gets = record { made = gets.made; needed = gets.needed; rest = gets.rest }
+
+  pub gathers_then_gets : (old mid new : List ℕ → Left) (item : Item) (rests : Bool) (a b c : T) → Gathers reads old mid a b → Gets reads mid item new rests b c → Gets reads old item new rests a c
+  gathers_then_gets old mid new item rests a b c g h =
+      record {
+        made = h.made ++ g.made;
+        needed = needed_then (λ given. NeedsMore (mid given)) (λ given. NeedsMore (old given)) g.made h.made a b c
+            (λ given. needs_on (old (given_by g.made ++ given)) (mid given) (g.on given)) g.gave g.needed h.needed;
+        rest = λ none. h.rest (sym (gave_then h.made g.made g.gave) ∙ none);
+        takes = λ on rest.
+            let all : given_by (h.made ++ g.made) ++ rest ≡ given_by g.made ++ (given_by h.made ++ rest) =
+            ap (λ (l : List ℕ). l ++ rest) (given_then h.made g.made) ∙ append_assoc (given_by g.made) (given_by h.made) rest in
+            let P : List ℕ → Type 0 = λ l. Takes (old l) item (new rest) in
+            subst P (sym all) (continues_takes _ _ _ item (g.on (given_by h.made ++ rest)) (h.takes on rest));
+      }
+
   pub gathers_then : (old mid new : List ℕ → Left) (a b c : T) → Gathers reads old mid a b → Gathers reads mid new b c → Gathers reads old new a c
   gathers_then old mid new a b c g h =
       record {
@@ -145,7 +170,7 @@ module _ {T : Type 0} (reads : T → T → List ℕ → Type 0) where
   pub gathers_then_asked : (old mid new : List ℕ → Left) (rests : Bool) (result : Result (Option Item) InputFault) (a b c : T) → Gathers reads old mid a b
       → Asked reads mid new rests result b c → Asked reads old new rests result a c
   gathers_then_asked old mid new rests (Ok None) a b c g h = gathers_then old mid new a b c g h
-  gathers_then_asked old mid new rests (Ok (Some i)) a b c g h = gathers_then_asks old mid rests a b c g h
+  gathers_then_asked old mid new rests (Ok (Some i)) a b c g h = gathers_then_gets old mid new i rests a b c g h
   gathers_then_asked old mid new rests (Err e) a b c g h = gathers_then_asks old mid true a b c g h
 
   -- what a call that failed asked for
@@ -154,12 +179,12 @@ module _ {T : Type 0} (reads : T → T → List ℕ → Type 0) where
   asked_err old new rests (Ok item) a c P h asks = absurd h
   asked_err old new rests (Err e) a c P h asks = asks
 
-  pub asked_some : (old new : List ℕ → Left) (rests : Bool) (item : Option Item) (a c : T) → Asked reads old new rests (Ok item) a c
-      → Asks reads (λ given. NeedsMore (old given)) rests a c
-  asked_some old new rests None a c g = gathers_asks old new rests a c g
-  asked_some old new rests (Some i) a c asks = asks
+  pub asked_some : (old new : List ℕ → Left) (rests : Bool) (item : Option Item) (i : Item) (a c : T) → item ≡ Some i → Asked reads old new rests (Ok item) a c
+      → Gets reads old i new rests a c
+  asked_some old new rests None i a c is g = absurd cc
+  asked_some old new rests (Some j) i a c is gets = let same : j ≡ i = cc in subst (λ (x : Item). Gets reads old x new rests a c) same gets
 
   pub asked_none : (old new : List ℕ → Left) (rests : Bool) (item : Option Item) (a c : T) → item ≡ None → Asked reads old new rests (Ok item) a c
       → Gathers reads old new a c
   asked_none old new rests None a c is g = g
-  asked_none old new rests (Some i) a c is g = absurd cc
+  asked_none old new rests (Some i) a c is gets = absurd cc

@@ -1,4 +1,5 @@
 pub mod Asking
+pub mod Behind
 pub mod ItemSteps
 pub mod Leading
 pub mod LeftSteps

@@ -3,7 +3,7 @@ use Rattle.std.specs.Prelude.{◌≡◌, ℕ, ◌||◌, ◌&&◌, nat_lt, Bool, 
 use Rattle.hs_entries.specs.declared.input_fault.InputFault.{InputFault}
 use Rattle.hs_entries.specs.declared.item.Item.{Item}
 use Rattle.hs_entries.specs.Items.{has_item}
-use Rattle.hs_entries.specs.Left.{Left, whole_of, Continues}
+use Rattle.hs_entries.specs.Left.{Left, whole_of, Continues, Takes}
 
 -- What some reads gave. The newest of them stands first, each as the state from which it was made and its bytes.
 abbrev pub given_by : {T : Type 0} → List (T × List ℕ) → List ℕ
@@ -40,8 +40,16 @@ pub record Gathers {T : Type 0} (reads : T → T → List ℕ → Type 0) (befor
   pub gave : all_gave made ≡ true
   pub on : (rest : List ℕ) → Continues (before (given_by made ++ rest)) (after rest)
 
--- the same where an item may be taken, or the answer is a fault, behind which no read comes
+-- Reads that were needed lead from one state of a source to another. Until one gave nothing, the item that is taken is that of what was
+-- left and what they gave, whatever may come behind.
+pub record Gets {T : Type 0} (reads : T → T → List ℕ → Type 0) (before : List ℕ → Left) (item : Item) (after : List ℕ → Left) (rests : Bool) (old new : T) : Type 0 where
+  pub made : List (T × List ℕ)
+  pub needed : AreNeeded reads (λ given. NeedsMore (before given)) made old new
+  pub rest : all_gave made ≡ false → rests ≡ true
+  pub takes : rests ≡ false → (rest : List ℕ) → Takes (before (given_by made ++ rest)) item (after rest)
+
+-- No item may be taken, or one, or the answer is a fault, behind which no read comes.
 abbrev pub Asked : {T : Type 0} → (T → T → List ℕ → Type 0) → (List ℕ → Left) → (List ℕ → Left) → Bool → Result (Option Item) InputFault → T → T → Type 0
 Asked reads before after rests (Ok None) old new = Gathers reads before after old new
-Asked reads before after rests (Ok (Some i)) old new = Asks reads (λ given. NeedsMore (before given)) rests old new
+Asked reads before after rests (Ok (Some i)) old new = Gets reads before i after rests old new
 Asked reads before after rests (Err e) old new = Asks reads (λ given. NeedsMore (before given)) true old new

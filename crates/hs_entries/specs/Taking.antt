@@ -3,8 +3,9 @@ use Rattle.std.specs.Prelude.{◌≡◌, ℕ, ◌+◌, ◌<◌, ◌≤◌, Bool,
 use Rattle.hs_entries.specs.declared.item.Item.{Item}
 use Rattle.hs_entries.specs.declared.item.Item.TheVariants.{End}
 use Rattle.hs_entries.specs.declared.reader.EntryReader.{EntryReader}
-use Rattle.hs_entries.specs.Left.{Left, Takes, TakesFirst, TakesWhole, Continues, RunsOut, KeepsRoom, IsNumbered}
-use Rattle.hs_entries.specs.Reader.{ahead, room, next_number, has_ended, left, left_items, left_whole, left_over, Grows, Shrinks}
+use Rattle.hs_entries.specs.Asking.{AreNeeded, given_by}
+use Rattle.hs_entries.specs.Left.{Left, Takes, TakesFirst, TakesWhole, Continues, RunsOut, KeepsRoom, IsNumbered, whole_of}
+use Rattle.hs_entries.specs.Reader.{ahead, room, next_number, has_ended, is_ready_with, left, left_items, left_whole, left_over, Grows, Shrinks}
 use Rattle.hs_entries.specs.Window.{begun_of, left_of, IsFresh}
 
 -- Of the items that are left the first is taken, among those within the limit too, and the bytes that it uses may not be used
@@ -60,3 +61,11 @@ pub record KeepsCount (old new : EntryReader) : Type 0 where
   pub count : new.count ≡ old.count
   pub kept : new.kept ≡ old.kept
   pub ended : new.has_ended ≡ old.has_ended
+
+-- Reads that were needed lead from one state of a source to another. An item is the first that is whole among the bytes that a reader
+-- had at hand and those that they gave, and the others are those that are left for it, whatever bytes come behind.
+pub record IsGiven {T : Type 0} (reads : T → T → List ℕ → Type 0) (before : EntryReader) (item : Item) (after : EntryReader) (old new : T) : Type 0 where
+  pub made : List (T × List ℕ)
+  pub needed : AreNeeded reads (λ given. is_ready_with before given ≡ false) made old new
+  pub room : KeepsRoom (left_over before (given_by made)) (left_over after [])
+  pub whole : (rest : List ℕ) → TakesWhole (whole_of (left_over before (given_by made ++ rest))) item (whole_of (left_over after rest))

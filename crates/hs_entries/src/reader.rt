@@ -4,7 +4,7 @@ ghost use Rattle.std.proofs.Props.{props};
 ghost use Rattle.hs_entries.specs.Place.{is_entry};
 ghost use Rattle.hs_entries.specs.Left.{IsBeyond, IsNumbered, Takes};
 ghost use Rattle.hs_entries.specs.Calls.{UsesSource, HasInputCause, ReadsWith};
-ghost use Rattle.hs_entries.specs.Asking.{Asks, Asked, NeedsMore};
+ghost use Rattle.hs_entries.specs.Asking.{Asks, Asked, Gets, NeedsMore};
 ghost use Rattle.hs_entries.specs.Window.{IsSound, IsAtEnd, IsFresh, ahead_of, left_of, begun_of, room_of};
 
 use crate::entry::{cut_entry, read_entry};
@@ -29,7 +29,7 @@ pub struct EntryReader {
 }
 
 impl EntryReader {
-    ghost use Rattle.hs_entries.specs.Taking.{TakesItem, Counts, Becomes, GoesOn, Passes, Refills, GetsMore, KeepsCount};
+    ghost use Rattle.hs_entries.specs.Taking.{TakesItem, Counts, Becomes, GoesOn, IsGiven, Passes, Refills, GetsMore, KeepsCount};
     ghost use Rattle.hs_entries.specs.Reader.{ahead, room, next_number, kept, has_ended, rests, AgreesWith, is_ready as ready, is_ready_with as ready_with, is_at_hand, finds, left, left_over, left_within, left_items, left_whole, Shrinks, Grows, Skims, cut_at};
 
     /// A reader of a source of which at most `limit` bytes are used. Takes no memory: the first `next` takes
@@ -79,7 +79,8 @@ impl EntryReader {
     }
 
     /// The next item of the input. It asks for input only where it needs a byte and has none left: before each
-    /// read no answer is ready in what was at hand and what the reads of this call gave by then. A read that gives
+    /// read no answer is ready in what was at hand and what the reads of this call gave by then. Until the input has ended the
+    /// answer comes of these bytes alone, whatever the source has behind them. A read that gives
     /// no byte ends the input for this reader: it asks its source no more, whatever that may still get. A fault is kept:
     /// each later call answers it again, without a call of the source.
     ///
@@ -103,6 +104,7 @@ impl EntryReader {
         // The source.
         ensures ready { ready self.old ≡ true → source.new ≡ source.old }
         ensures needed { Asks S.reads (λ more. ready_with self.old more ≡ false) (rests self.new) source.old source.new }
+        ensures given { IfOk result (λ item. has_ended self.new ≡ false → IsGiven S.reads self.old item self.new source.old source.new) }
         ensures uses { UsesSource S.Source source.old source.new }
     {
         if let Some(fault) = self.kept {
@@ -127,7 +129,7 @@ impl EntryReader {
         ensures past { IsErrOf result InputFault.TooLong → room self.new < length (ahead self.new) }
         ensures cause { HasInputCause (S.input_faults source.old) (S.input_faults source.new) result }
         ensures ready { is_at_hand self.old ≡ true → source.new ≡ source.old }
-        ensures needed { MatchResult result (λ _. Asks S.reads (λ more. NeedsMore (left_over self.old more)) self.new.has_ended source.old source.new) (λ _. Asks S.reads (λ more. NeedsMore (left_over self.old more)) true source.old source.new) }
+        ensures needed { MatchResult result (λ item. Gets S.reads (left_over self.old) item (left_over self.new) self.new.has_ended source.old source.new) (λ _. Asks S.reads (λ more. NeedsMore (left_over self.old more)) true source.old source.new) }
         ensures agrees { S.tells → AgreesWith self.new (S.unread source.new) }
         ensures kept { self.new.kept ≡ self.old.kept }
         ensures uses { UsesSource S.Source source.old source.new }

@@ -2,7 +2,7 @@ use Rattle.std.proofs.Common.{rules, ◌≡◌, ◌+◌, ◌++◌, ℕ, List, []
 use Rattle.hs_entries.specs.declared.reader.EntryReader.{EntryReader}
 use Rattle.hs_entries.specs.declared.place.Place.TheVariants.{Between}
 use Rattle.hs_entries.specs.Asking.{Gathers}
-use Rattle.hs_entries.proofs.Asking.{gathers_on, gathers_then, gathers_then_asks, asked_some, match_err, asked_none}
+use Rattle.hs_entries.proofs.Asking.{gathers_on, gathers_then, gathers_gets, gathers_then_asks, gathers_then_gets, asked_some, match_err, asked_none}
 use Rattle.hs_entries.proofs.LeftSteps.{continues_trans, continues_beyond, continues_same, limit_beyond}
 use Rattle.hs_entries.specs.Reader.{ahead, room, left_over}
 use Rattle.hs_entries.proofs.reader.EntryReader.read_item.Goals as goal
@@ -34,10 +34,10 @@ returns-in_err-item-clause-needed g c =
 
 pub returns-in-Some-clause-needed : goal.returns-in-Some-clause-needed
 returns-in-Some-clause-needed g c =
-    gathers_then_asks g.S.Source.reads (left_over c.args.self.now) (left_over c.look.new.self) c.read_on.new.self.has_ended c.args.source.now c.items.source c.read_on.new.source
+    gathers_then_gets g.S.Source.reads (left_over c.args.self.now) (left_over c.look.new.self) (left_over c.read_on.new.self) c.in-Some.item c.read_on.new.self.has_ended c.args.source.now c.items.source c.read_on.new.source
     (looked_so_far g.S.Source.reads c.args.self.now c.items.self c.look.new.self c.args.source.now c.items.source c.items.invariant.gathers
     c.look.ensures.count c.look.ensures.ahead c.look.ensures.room)
-    (asked_some g.S.Source.reads (left_over c.look.new.self) (left_over c.read_on.new.self) c.read_on.new.self.has_ended c.in_ok-item.field-0 c.items.source c.read_on.new.source c.in_ok-item.ensures.asked)
+    (asked_some g.S.Source.reads (left_over c.look.new.self) (left_over c.read_on.new.self) c.read_on.new.self.has_ended c.in_ok-item.field-0 c.in-Some.item c.items.source c.read_on.new.source c.in-Some.is c.in_ok-item.ensures.asked)
 
 pub items-preserved : goal.items-preserved
 items-preserved g c =

@@ -1,9 +1,10 @@
 use Rattle.std.proofs.Common.{rules, ◌≡◌, ◌∙◌, ◌+◌, ◌++◌, true, ℕ, [], List, length, ap, sym, subst, arith}
+use Rattle.hs_entries.specs.declared.item.Item.TheVariants.{TooLong}
 use Rattle.hs_entries.specs.Window.{ahead_of, left_of, room_of}
 use Rattle.hs_entries.specs.Left.{long, IsNumbered}
 use Rattle.hs_entries.specs.Reader.{ahead, room, cut_at, left_over, left_within}
 use Rattle.hs_entries.specs.Asking.{NeedsMore}
-use Rattle.hs_entries.proofs.Asking.{empty_needs, asks_once, asks_at_most_once, gathers_on, gathers_once, gathers_then, gathers_then_asks, asked_err}
+use Rattle.hs_entries.proofs.Asking.{empty_needs, asks_once, asks_at_most_once, gathers_on, gathers_once, gathers_gets, gathers_then, gathers_then_asks, gets_over, asked_err}
 use Rattle.hs_entries.proofs.LeftSteps.{left_at, continues_trans, continues_takes, continues_same, cut_step, takes_at, fresh_ahead, long_too_long}
 use Rattle.hs_entries.proofs.reader.EntryReader.skip_from.Goals as goal
 
@@ -55,10 +56,23 @@ returns-then-not-branch-clause-asked g c =
     let skimmed = c.skim.new.self in
     let mid = left_within skimmed c.in-Nothing.next in
     let needs = empty_needs (skimmed.count + 1) c.in-Nothing.next long (room skimmed) (ahead skimmed) (c.in-Nothing.ensures.skims []).1 in
-    gathers_then_asks g.S.Source.reads old mid c.cut_item.new.self.has_ended c.args.source.now c.skims.source c.refill.new.source (gathers_on g.S.Source.reads old (left_within c.skims.self c.skims.place) mid c.args.source.now c.skims.source
+    let new = c.cut_item.new.self in
+    gets_over g.S.Source.reads old (left_over new) c.cut_item.result new.has_ended c.args.source.now c.refill.new.source c.cut_item.ensures.ended
+    (gathers_then_asks g.S.Source.reads old mid new.has_ended c.args.source.now c.skims.source c.refill.new.source (gathers_on g.S.Source.reads old (left_within c.skims.self c.skims.place) mid c.args.source.now c.skims.source
     c.skims.invariant.gathers (λ rest. (c.in-Nothing.ensures.skims rest).0))
-    (asks_once g.S.Source.reads (λ given. NeedsMore (mid given)) c.cut_item.new.self.has_ended c.skims.source c.refill.new.source (left_of c.refill.new.self.window) needs c.in_ok-refill.ensures.one
-    (λ _. c.cut_item.ensures.ended))
+    (asks_once g.S.Source.reads (λ given. NeedsMore (mid given)) new.has_ended c.skims.source c.refill.new.source (left_of c.refill.new.self.window) needs c.in_ok-refill.ensures.one
+    (λ _. c.cut_item.ensures.ended)))
+
+pub returns-in-Entry-clause-asked : goal.returns-in-Entry-clause-asked
+returns-in-Entry-clause-asked g c =
+    let here = c.skims.self in
+    let new = c.long_item.new.self in
+    let count = c.in-Entry.ensures.count in
+    gathers_gets g.S.Source.reads (left_within c.args.self.now c.args.from) (left_within here c.skims.place) (left_over new) c.long_item.result new.has_ended c.args.source.now c.skims.source c.skims.invariant.gathers
+    (λ rest.
+    let item : c.long_item.result ≡ TooLong (here.count + 1) = c.long_item.ensures.item ∙ ap (λ (k : ℕ). TooLong (k + 1)) count in
+    let number : new.count + 1 ≡ here.count + 1 + 1 = omega (arith, c.long_item.ensures.number, count) in
+    rw (item, number, c.long_item.ensures.window) (c.in-Entry.ensures.skims rest))
 
 pub skims-preserved : goal.skims-preserved
 skims-preserved g c =

@@ -2,7 +2,7 @@ use Rattle.std.proofs.Common.{◌≡◌, ◌∙◌, ◌+◌, ◌++◌, ℕ, [], 
 use Rattle.hs_entries.specs.Window.{ahead_of, left_of, room_of}
 use Rattle.hs_entries.specs.Left.{Continues}
 use Rattle.hs_entries.specs.Asking.{NeedsMore}
-use Rattle.hs_entries.proofs.Asking.{looked_needs, asks_once, asks_at_most_once, gathers_once, gathers_then_asked, asked_err}
+use Rattle.hs_entries.proofs.Asking.{looked_needs, asks_once, asks_at_most_once, gathers_once, gathers_then_asked, gets_over, asked_err}
 use Rattle.hs_entries.specs.Reader.{left_over, left_within, ahead, room}
 use Rattle.hs_entries.proofs.LeftSteps.{long_start, long_cut, becomes_on, continues_beyond, fresh_ahead, fresh_room}
 use Rattle.hs_entries.proofs.reader.EntryReader.skip_long.Goals as goal
@@ -64,9 +64,11 @@ pub returns-else-branch-clause-asked : goal.returns-else-branch-clause-asked
 returns-else-branch-clause-asked g c =
     let r = c.args.self.now in
     let needs = looked_needs (r.count + 1) r.window r.sound c.requires.looked in
-    asks_once g.S.Source.reads (λ given. NeedsMore (left_over r given)) c.cut_item.new.self.has_ended c.args.source.now c.refill.new.source
+    let new = c.cut_item.new.self in
+    gets_over g.S.Source.reads (left_over r) (left_over new) c.cut_item.result new.has_ended c.args.source.now c.refill.new.source c.cut_item.ensures.ended
+    (asks_once g.S.Source.reads (λ given. NeedsMore (left_over r given)) new.has_ended c.args.source.now c.refill.new.source
     (left_of c.refill.new.self.window) needs c.in_ok-refill.ensures.one
-    (λ _. c.cut_item.ensures.ended)
+    (λ _. c.cut_item.ensures.ended))
 
 -- the same, whatever the source gives behind the bytes of the one read
 goes_on_with : (g : _) (c : goal.After-skip_from g) (rest : List ℕ)
