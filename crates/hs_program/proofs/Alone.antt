@@ -5,24 +5,40 @@ use Rattle.hs_host.specs.declared.source.Source as source
 use Rattle.hs_host.specs.declared.host.Host as host
 use Rattle.hs_host.specs.Disk.{Pending}
 use Rattle.hs_host.specs.Files.{of, with_}
-use Rattle.hs_host.specs.Moments.{Moment, OneFile, IsStill}
+use Rattle.hs_host.specs.Moments.{Moment, History, Since, OneFile, IsStill, disk_of}
 use Rattle.hs_host.specs.Files.{Five}
 use Rattle.hs_host.specs.Used.{ReadsFiles, Moves, ChangesFile}
-use Rattle.hs_host.proofs.Passing.{since_none, since_weaker}
+use Rattle.hs_host.proofs.Passing.{since_join, since_none, since_now, since_weaker}
 use Rattle.hs_host.proofs.Used.{uses_on, told_on, only_on, still_only, moves_weaker}
 use Rattle.hs_log.specs.Log.{IsOpening}
 use Rattle.hs_run.specs.Crash.{IsLater}
-use Rattle.hs_run.proofs.Alone.{alone_on}
+use Rattle.hs_program.specs.Crash.{IsPreparing}
 
-still_later : (before m : Moment) → IsStill before m → IsLater before m
-still_later before m is = record {
+still_preparing : (before m : Moment) → IsStill before m → IsPreparing before m
+still_preparing before m is = record {
   disks = subst (λ (d : Five Pending). d ≡ with_ before.disks Log (of d Log)) (sym (ap (λ (x : Moment). x.disks) is)) refl;
-  more = [];
-  out = ap (λ (x : Moment). x.out) is ∙ sym (append-nil before.out);
+  out = ap (λ (x : Moment). x.out) is;
 }
 
-one_later : {Q : List ℕ → Type 0} (before m : Moment) → OneFile before Log Q m → IsLater before m
-one_later before m one = subst (IsLater before) (sym one.is) (record { disks = refl; more = []; out = sym (append-nil before.out) })
+one_preparing : {Q : List ℕ → Type 0} (before m : Moment) → OneFile before Log Q m → IsPreparing before m
+one_preparing before m one = subst (IsPreparing before) (sym one.is) (record { disks = refl; out = refl })
+
+-- one behind the other
+preparing_then : (a b m : Moment) → IsPreparing a b → IsPreparing b m → IsPreparing a m
+preparing_then a b m first then = record {
+  disks = then.disks ∙ ap (λ (d : Five Pending). with_ d Log (disk_of m Log)) first.disks;
+  out = then.out ∙ first.out;
+}
+
+preparing_on : {a b c : History} → Since (IsPreparing a.now) a b → Since (IsPreparing b.now) b c → Since (IsPreparing a.now) a c
+preparing_on {a} {b} {c} ab bc = since_join ab (since_weaker bc (λ m then. elim (since_now ab) [
+  | inl is ↦ subst (λ (x : Moment). IsPreparing x m) is then
+  | inr first ↦ preparing_then a.now b.now m first then
+]))
+
+-- so the log alone is touched
+pub preparing_later : {a b : History} → Since (IsPreparing a.now) a b → Since (IsLater a.now) a b
+preparing_later {a} {b} ab = since_weaker ab (λ m is. record { disks = is.disks; more = []; out = is.out ∙ sym (append-nil a.now.out) })
 
 module _ {H : Type 0} {s : source.Ghosts H} {g : host.Ghosts H} where
   -- nothing was read yet
@@ -34,23 +50,23 @@ module _ {H : Type 0} {s : source.Ghosts H} {g : host.Ghosts H} where
   }
 
   -- while it is opened or made
-  pub opens_alone : {a b : H} → Moves s g Log (IsOpening (g.files a) (g.history a).now) a b → Moves s g Log (IsLater (g.history a).now) a b
-  opens_alone {a} {b} ab = moves_weaker ab (λ told m is. elim is [ inl still ↦ still_later (g.history a).now m still | inr birth ↦ one_later (g.history a).now m birth.log ])
+  pub opens_alone : {a b : H} → Moves s g Log (IsOpening (g.files a) (g.history a).now) a b → Moves s g Log (IsPreparing (g.history a).now) a b
+  opens_alone {a} {b} ab = moves_weaker ab (λ told m is. elim is [ inl still ↦ still_preparing (g.history a).now m still | inr birth ↦ one_preparing (g.history a).now m birth.log ])
 
   -- while it is read, and while it is changed
-  pub reads_alone : {a b : H} → ReadsFiles s g a b → Moves s g Log (IsLater (g.history a).now) a b
+  pub reads_alone : {a b : H} → ReadsFiles s g a b → Moves s g Log (IsPreparing (g.history a).now) a b
   reads_alone {a} {b} ab = record {
     uses = ab.uses;
     others = λ told. still_only (g.files a) (g.files b) Log (ab.files told);
-    moments = λ told. since_weaker (ab.moments told) (still_later (g.history a).now);
+    moments = λ told. since_weaker (ab.moments told) (still_preparing (g.history a).now);
   }
 
-  pub changes_alone : {Q : List ℕ → Type 0} {a b : H} → ChangesFile s g Log Q a b → Moves s g Log (IsLater (g.history a).now) a b
-  changes_alone {Q} {a} {b} ab = moves_weaker ab (λ told m. one_later (g.history a).now m)
+  pub changes_alone : {Q : List ℕ → Type 0} {a b : H} → ChangesFile s g Log Q a b → Moves s g Log (IsPreparing (g.history a).now) a b
+  changes_alone {Q} {a} {b} ab = moves_weaker ab (λ told m. one_preparing (g.history a).now m)
 
-  pub alone_behind : {a b c : H} → Moves s g Log (IsLater (g.history a).now) a b → Moves s g Log (IsLater (g.history b).now) b c → Moves s g Log (IsLater (g.history a).now) a c
+  pub alone_behind : {a b c : H} → Moves s g Log (IsPreparing (g.history a).now) a b → Moves s g Log (IsPreparing (g.history b).now) b c → Moves s g Log (IsPreparing (g.history a).now) a c
   alone_behind {a} {b} {c} ab bc = record {
     uses = uses_on ab.uses bc.uses;
     others = λ told. only_on (g.files a) (g.files b) (g.files c) Log (ab.others told) (bc.others (told_on ab.uses told));
-    moments = λ told. alone_on (ab.moments told) (bc.moments (told_on ab.uses told));
+    moments = λ told. preparing_on (ab.moments told) (bc.moments (told_on ab.uses told));
   }

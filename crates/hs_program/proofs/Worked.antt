@@ -23,12 +23,13 @@ use Rattle.hs_program.specs.declared.status.Status.{Status}
 use Rattle.hs_program.specs.declared.status.Status.TheVariants.{Done, Usage, InputFault, OutputFault, DiskFault, NoMemory, Damaged, InputTooLong}
 use Rattle.hs_program.specs.Ahead.{ahead, all_told, ended_with, told_within, texts_from}
 use Rattle.hs_program.specs.Damaged.{GivesOneAlone, IsDamagedAlone, IsDamagedAt, IsInvalidAlone}
-use Rattle.hs_program.specs.Crash.{IsFound, IsKept, IsQuiet, IsSafe, Survives}
+use Rattle.hs_program.specs.Crash.{IsFound, IsKept, IsPreparing, IsQuiet, IsSafe, IsSafeOnce, Survives}
 use Rattle.hs_program.specs.Lawful.{IsLawful}
 use Rattle.hs_program.specs.Meaning.{Meaning, Opened, nothing_logged}
 use Rattle.hs_program.specs.Opening.{IsInvalid, IsOpened, texts_at}
 use Rattle.hs_program.specs.Run.{HasLog, Runs}
 use Rattle.hs_program.specs.Stop.{TellsDamage, is_damaged, stopped, unopened}
+use Rattle.hs_program.proofs.Alone.{preparing_later}
 use Rattle.hs_program.proofs.Openings.{same_gives}
 use Rattle.hs_program.proofs.Replayed.{unborn_gives}
 use Rattle.hs_program.proofs.Stops.{is_idle}
@@ -150,6 +151,7 @@ module _ (m : Meaning) (law : IsLawful m) (files : Five (List ℕ)) (input befor
     reopens = λ opened is done. absurd (idle_never status Done idle refl done);
     others = refl;
     crash = λ quiet opened is. since_none _ start;
+    crash_later = λ opened is. since_none _ start;
     safe = λ quiet opened is has. start_safe m law files opened input before start.now is quiet first;
     left = λ quiet opened is has. same_survives m law files.log opened input before before files.log is refl (same_gives m files.log files.log refl);
     begun = λ unborn. inl unborn;
@@ -167,10 +169,14 @@ module _ (m : Meaning) (law : IsLawful m) (files : Five (List ℕ)) (input befor
     kept = λ is. refl;
   }
 
+  -- while the log is opened nothing is written
+  nothing_once : {mid : History} (opened : Opened) → Since (IsPreparing start.now) start mid → Since (IsSafeOnce m files.log opened input before) start mid
+  nothing_once opened each = since_weaker each (λ at is wrote. absurd (wrote (is.out ∙ first)))
+
   -- what stands in the end and was written by then
   module _ (after : Five (List ℕ)) (out : List ℕ) (now : History) (last : now.now.out ≡ out) (leaves : Leaves (disk_of now.now LogFile) after.log) where
     -- the log couldn't be opened
-    module _ (why : OpenFault) (told : out ≡ before) (others : OnlyLog files after) (found : IsQuiet files start.now → Since (IsFound m files start.now) start now) (alone : Since (IsLater start.now) start now)
+    module _ (why : OpenFault) (told : out ≡ before) (others : OnlyLog files after) (found : IsQuiet files start.now → Since (IsFound m files start.now) start now) (prepared : Since (IsPreparing start.now) start now)
         (damaged : (number : ℕ) → why ≡ fault.Damaged number → IsDamagedAt m files.log number × IsDamagedAlone m files.log number × (after ≡ files))
         (invalid : (name : List ℕ) → why ≡ fault.Invalid name → IsInvalid m files.log name × IsInvalidAlone m files.log name × (after ≡ files))
         (kept : ((number : ℕ) → IsDamagedAt m files.log number → after ≡ files) × ((name : List ℕ) → IsInvalid m files.log name → after ≡ files)) (begun : is_born files.log ≡ false → IsUnbornOrNew after.log) where
@@ -213,10 +219,11 @@ module _ (m : Meaning) (law : IsLawful m) (files : Five (List ℕ)) (input befor
         reopens = λ opened is done. absurd (unopened_done why done);
         others = others;
         crash = unopened_crash;
+        crash_later = λ opened is. nothing_once opened prepared;
         safe = unopened_safe;
         left = λ quiet opened is has. left_now m files.log opened input before now.now out after.log (unopened_safe quiet opened is has) last leaves;
         begun = λ unborn. unborn_or_new m law files.log input before out after.log unborn told (begun unborn);
-        alone = λ quiet. alone;
+        alone = λ quiet. preparing_later prepared;
         damaged = λ number is. (damaged number (damaged_as why number is)).0;
         damaged_alone = λ number is. (damaged number (damaged_as why number is)).1;
         damage = damaged_told why refl;
@@ -233,7 +240,7 @@ module _ (m : Meaning) (law : IsLawful m) (files : Five (List ℕ)) (input befor
     -- turns were taken behind an opening
     module _ (opened : Opened) (is : IsOpened m files.log opened) (gives : GivesOneAlone m files.log) (mid : History) (between : Five (List ℕ)) (kept : Kept) (log : IsLog mid between kept) (epoch : epoch_in kept ≡ 1)
         (texts : texts_in between ≡ texts_at files.log) (told : mid.now.out ≡ before) (only : OnlyLog files between) (found : IsQuiet files start.now → Since (IsFound m files start.now) start mid)
-        (alone : Since (IsLater start.now) start mid) (status : Status)
+        (prepared : Since (IsPreparing start.now) start mid) (status : Status)
         (turned : Turned (ahead m files.log opened) (texts_at files.log) input before between mid after out now status) where
       each_safe : Since (IsSafe m files.log opened input before) mid now
       each_safe = since_weaker turned.moments (λ at. safe m law files.log opened input before at is)
@@ -274,10 +281,11 @@ module _ (m : Meaning) (law : IsLawful m) (files : Five (List ℕ)) (input befor
         reopens = λ o there done. subst (λ (x : Opened). IsOpened m after.log (ended_with m files.log x input)) (same o there) (reopened m law files.log after.log opened input is (turned.log done));
         others = only_on files between after LogFile only turned.others;
         crash = λ quiet o there. subst (λ (x : Opened). Since (IsKept m files x input before start.now) start now) (same o there) (turned_crash quiet);
+        crash_later = λ o there. subst (λ (x : Opened). Since (IsSafeOnce m files.log x input before) start now) (same o there) (since_join (nothing_once opened prepared) (since_weaker each_safe (λ at safe wrote. safe)));
         safe = λ quiet o there has. subst (λ (x : Opened). IsSafe m files.log x input before now.now) (same o there) turned_safe;
         left = λ quiet o there has. subst (λ (x : Opened). Survives m files.log x input before out after.log) (same o there) turned_left;
         begun = λ unborn. inr (subst (λ (x : Opened). Survives m files.log x input before out after.log) (same (nothing_logged m) (unborn_gives m law files.log unborn)) turned_left);
-        alone = λ quiet. alone_on alone turned.alone;
+        alone = λ quiet. alone_on (preparing_later prepared) turned.alone;
         damaged = λ number damaged. hurt (ap is_damaged damaged);
         damaged_alone = λ number damaged. hurt (ap is_damaged damaged);
         damage = λ number there. whole number there;

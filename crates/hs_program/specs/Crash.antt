@@ -2,7 +2,7 @@
 use Rattle.std.specs.Prelude.{◌≡◌, ◌⊎◌, ℕ, List, take}
 use Rattle.hs_durable.specs.Durable.{Point, IsBirth, Survives as PointSurvives}
 use Rattle.hs_host.specs.Disk.{Leaves, settled}
-use Rattle.hs_host.specs.Files.{Five}
+use Rattle.hs_host.specs.Files.{Five, with_}
 use Rattle.hs_host.specs.Moments.{Moment, disk_of}
 use Rattle.hs_host.specs.declared.file_kind.FileKind.TheVariants.{Log}
 use Rattle.hs_run.specs.Crash.{AcknowledgesBehind, HasNoLine}
@@ -36,9 +36,18 @@ IsSafe m old opened input before at = (log : List ℕ) → Leaves (disk_of at Lo
 abbrev pub IsKept : Meaning → Five (List ℕ) → Opened → List ℕ → List ℕ → Moment → Moment → Type 0
 IsKept m files opened input before start at = IsBirth files start at ⊎ IsSafe m files.log opened input before at
 
+-- At a moment at which anything was written behind the output of the start, all survives, whatever the disk had at the start.
+abbrev pub IsSafeOnce : Meaning → List ℕ → Opened → List ℕ → List ℕ → Moment → Type 0
+IsSafeOnce m old opened input before at = ¬ (at.out ≡ before) → IsSafe m old opened input before at
+
 -- a log gives what another gives, and by the same commits
 abbrev pub GivesSame : Meaning → List ℕ → List ℕ → Type 0
 GivesSame m old log = ((opened : Opened) → IsOpened m old opened → IsOpened m log opened) × (texts_at log ≡ texts_at old)
+
+-- While the log is opened nothing is written, and of what the disk has of the files only what it has of the log may be other.
+pub record IsPreparing (start at : Moment) : Type 0 where
+  pub disks : at.disks ≡ with_ start.disks Log (disk_of at Log)
+  pub out : at.out ≡ start.out
 
 -- While the log is opened nothing is written, and a log that wasn't born is being made, or whatever a crash leaves gives
 -- what was found.

@@ -15,7 +15,7 @@ use Rattle.hs_program.specs.declared.opening.Opening.{Opening}
 use Rattle.hs_program.specs.declared.status.Status.{Status}
 use Rattle.hs_program.specs.declared.status.Status.TheVariants.{Done, DiskFault, NoMemory, Damaged, InputTooLong}
 use Rattle.hs_program.specs.Ahead.{ahead, all_told, told_within, texts_from, ended_with}
-use Rattle.hs_program.specs.Crash.{IsQuiet, IsKept, IsSafe, Survives}
+use Rattle.hs_program.specs.Crash.{IsQuiet, IsKept, IsSafe, IsSafeOnce, Survives}
 use Rattle.hs_program.specs.Damaged.{GivesOneAlone, IsDamagedAlone, IsDamagedAt, IsInvalidAlone}
 use Rattle.hs_program.specs.Lawful.{IsSound}
 use Rattle.hs_program.specs.Meaning.{Meaning, Opened, nothing_logged}
@@ -68,6 +68,7 @@ pub record Runs (m : Meaning) (files : Five (List ℕ)) (input before : List ℕ
   pub reopens : (opened : Opened) → IsOpened m files.log opened → status ≡ Done → IsOpened m after.log (ended_with m files.log opened input)
   pub others : OnlyLog files after
   pub crash : IsQuiet files start.now → (opened : Opened) → IsOpened m files.log opened → Since (IsKept m files opened input before start.now) start now
+  pub crash_later : (opened : Opened) → IsOpened m files.log opened → Since (IsSafeOnce m files.log opened input before) start now
   pub safe : IsQuiet files start.now → (opened : Opened) → IsOpened m files.log opened → HasLog files.log status → IsSafe m files.log opened input before now.now
   pub left : IsQuiet files start.now → (opened : Opened) → IsOpened m files.log opened → HasLog files.log status → Survives m files.log opened input before out after.log
   pub begun : is_born files.log ≡ false → (is_born after.log ≡ false) ⊎ Survives m files.log (nothing_logged m) input before out after.log

@@ -5,9 +5,8 @@ ghost use Rattle.hs_host.specs.Moments.{Since};
 ghost use Rattle.hs_host.specs.Used.{Told, Moves, ReadsFiles};
 ghost use Rattle.hs_log.specs.Log.{IsUnbornOrNew, is_born, has_header, is_broken, texts_of};
 ghost use Rattle.hs_log.specs.LogReading.{IsReading, TakesText, count_in, left_in};
-ghost use Rattle.hs_run.specs.Crash.{IsLater};
 ghost use Rattle.hs_run.specs.Stop.{NoFaults};
-ghost use Rattle.hs_program.specs.Crash.{IsFound, IsQuiet};
+ghost use Rattle.hs_program.specs.Crash.{IsFound, IsPreparing, IsQuiet};
 ghost use Rattle.hs_program.specs.Damaged.{IsDamagedAlone, IsDamagedAt, IsInvalidAlone, IsOnlyDamage};
 ghost use Rattle.hs_program.specs.Opening.{IsInvalid};
 ghost use Rattle.hs_program.specs.Run.{MakeInvalid, Opens, Redoes};
@@ -37,7 +36,7 @@ pub fn open_log<H: Host, E: Engine + Drop>(
     ensures invalid { Told H.Source H.Host.own host.old → (name : List ℕ) → IsErrOf result (OpenFault.Invalid name) → IsInvalid E.meaning (H.files host.old).log name × IsInvalidAlone E.meaning (H.files host.old).log name × (H.files host.new ≡ H.files host.old) }
     ensures kept { Told H.Source H.Host.own host.old → ((number : ℕ) → IsDamagedAt E.meaning (H.files host.old).log number → H.files host.new ≡ H.files host.old) × ((name : List ℕ) → IsInvalid E.meaning (H.files host.old).log name → H.files host.new ≡ H.files host.old) }
     ensures moments { Told H.Source H.Host.own host.old → IsQuiet (H.files host.old) (H.history host.old).now → Since (IsFound E.meaning (H.files host.old) (H.history host.old).now) (H.history host.old) (H.history host.new) }
-    ensures moves { Moves H.Source H.Host.own FileKind.Log (IsLater (H.history host.old).now) host.old host.new }
+    ensures moves { Moves H.Source H.Host.own FileKind.Log (IsPreparing (H.history host.old).now) host.old host.new }
     ensures stops { MatchResult result (λ _. NoFaults H.Source H.Host.own host.old host.new) (OpenStops H.Source H.Host.own host.old host.new) }
     ensures begun { Told H.Source H.Host.own host.old → is_born (H.files host.old).log ≡ false → OnErr result (IsUnbornOrNew (H.files host.new).log) }
 {
@@ -64,7 +63,7 @@ fn read_log<H: Host, E: Engine + Drop>(
     ensures invalid { Told H.Source H.Host.own host.old → (name : List ℕ) → IsErrOf result (OpenFault.Invalid name) → IsInvalid E.meaning (H.files host.old).log name × IsInvalidAlone E.meaning (H.files host.old).log name × (H.files host.new ≡ H.files host.old) }
     ensures kept { Told H.Source H.Host.own host.old → ((number : ℕ) → IsDamagedAt E.meaning (H.files host.old).log number → H.files host.new ≡ H.files host.old) × ((name : List ℕ) → IsInvalid E.meaning (H.files host.old).log name → H.files host.new ≡ H.files host.old) }
     ensures moments { Told H.Source H.Host.own host.old → IsQuiet (H.files host.old) (H.history host.old).now → Since (IsFound E.meaning (H.files host.old) (H.history host.old).now) (H.history host.old) (H.history host.new) }
-    ensures moves { Moves H.Source H.Host.own FileKind.Log (IsLater (H.history host.old).now) host.old host.new }
+    ensures moves { Moves H.Source H.Host.own FileKind.Log (IsPreparing (H.history host.old).now) host.old host.new }
     ensures stops { MatchResult result (λ _. NoFaults H.Source H.Host.own host.old host.new) (OpenStops H.Source H.Host.own host.old host.new) }
 {
     let mut reader = reader;

@@ -10,7 +10,7 @@ ghost use Rattle.hs_run.specs.Holding.{WritesPrefix};
 ghost use Rattle.hs_run.specs.Stop.{NoFaults};
 ghost use Rattle.hs_program.specs.Ahead.{ahead, all_told, told_within, texts_from, ended_with};
 ghost use Rattle.hs_program.specs.Command.{database_of};
-ghost use Rattle.hs_program.specs.Crash.{IsQuiet, IsSafe, IsKept, Survives};
+ghost use Rattle.hs_program.specs.Crash.{IsQuiet, IsSafe, IsSafeOnce, IsKept, Survives};
 ghost use Rattle.hs_program.specs.Damaged.{GivesOneAlone, IsDamagedAlone, IsDamagedAt, IsInvalidAlone};
 ghost use Rattle.hs_program.specs.Meaning.{Opened, nothing_logged};
 ghost use Rattle.hs_program.specs.Mounting.{Mounts};
@@ -47,7 +47,7 @@ use std::alloc::Global;
 /// all commits that were acknowledged by then, and none of the run's own until the first line is written. Only while a log
 /// that wasn't born is being made may a crash leave another. The moment at which the run ends is a safe one too, but where
 /// the disk failed or memory was wanted over a log that wasn't born: then it still isn't born, or it is whole. On the disk no
-/// other file is touched.
+/// other file is touched. Where the log wasn't all on the disk at the call, all that is so from the first byte on that is written.
 pub fn run_over<H: Host, E: Engine + Drop>(alloc: Global, words: &Words, host: &mut H) -> Status
     requires { IsUnnamed (H.standing host.old) }
 
@@ -73,6 +73,7 @@ pub fn run_over<H: Host, E: Engine + Drop>(alloc: Global, words: &Words, host: &
 
     // What a crash leaves, at each moment of the run.
     ensures crash { H.tells → IsHonest (H.standing host.old) → IsQuiet (H.files host.old) (H.history host.old).now → (opened : Opened) → IsOpened E.meaning (H.files host.old).log opened → Since (IsKept E.meaning (H.files host.old) opened (H.unread host.old) (H.written host.old) (H.history host.old).now) (H.history host.old) (H.history host.new) }
+    ensures crash_later { H.tells → IsHonest (H.standing host.old) → (opened : Opened) → IsOpened E.meaning (H.files host.old).log opened → Since (IsSafeOnce E.meaning (H.files host.old).log opened (H.unread host.old) (H.written host.old)) (H.history host.old) (H.history host.new) }
     ensures safe { H.tells → IsHonest (H.standing host.old) → IsQuiet (H.files host.old) (H.history host.old).now → (opened : Opened) → IsOpened E.meaning (H.files host.old).log opened → HasLog (H.files host.old).log result → IsSafe E.meaning (H.files host.old).log opened (H.unread host.old) (H.written host.old) (H.history host.new).now }
     ensures left { H.tells → IsHonest (H.standing host.old) → IsQuiet (H.files host.old) (H.history host.old).now → (opened : Opened) → IsOpened E.meaning (H.files host.old).log opened → HasLog (H.files host.old).log result → Survives E.meaning (H.files host.old).log opened (H.unread host.old) (H.written host.old) (H.written host.new) (H.files host.new).log }
     ensures begun { H.tells → IsHonest (H.standing host.old) → is_born (H.files host.old).log ≡ false → (is_born (H.files host.new).log ≡ false) ⊎ Survives E.meaning (H.files host.old).log (nothing_logged E.meaning) (H.unread host.old) (H.written host.old) (H.written host.new) (H.files host.new).log }

@@ -38,6 +38,9 @@ returns-in_default-clause-others g c = λ tells honest. (idle g (goal.at.returns
 pub returns-in_default-clause-crash : goal.returns-in_default-clause-crash
 returns-in_default-clause-crash g c = λ tells honest. (idle g (goal.at.returns-in_default-clause-crash g c).In_default (record { tells = tells; honest = honest })).crash
 
+pub returns-in_default-clause-crash_later : goal.returns-in_default-clause-crash_later
+returns-in_default-clause-crash_later g c = λ tells honest. (idle g (goal.at.returns-in_default-clause-crash_later g c).In_default (record { tells = tells; honest = honest })).crash_later
+
 pub returns-in_default-clause-safe : goal.returns-in_default-clause-safe
 returns-in_default-clause-safe g c = λ tells honest. (idle g (goal.at.returns-in_default-clause-safe g c).In_default (record { tells = tells; honest = honest })).safe
 
@@ -109,6 +112,9 @@ returns-clause-others g c = λ tells honest. (c.serve.ensures.runs (record { tel
 
 pub returns-clause-crash : goal.returns-clause-crash
 returns-clause-crash g c = λ tells honest. (c.serve.ensures.runs (record { tells = tells; honest = honest })).crash
+
+pub returns-clause-crash_later : goal.returns-clause-crash_later
+returns-clause-crash_later g c = λ tells honest. (c.serve.ensures.runs (record { tells = tells; honest = honest })).crash_later
 
 pub returns-clause-safe : goal.returns-clause-safe
 returns-clause-safe g c = λ tells honest. (c.serve.ensures.runs (record { tells = tells; honest = honest })).safe
