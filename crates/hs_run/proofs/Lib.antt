@@ -6,6 +6,7 @@ pub mod Holding
 pub mod Lines
 pub mod Moving
 pub mod Prefixes
+pub mod Prompt
 pub mod Steps
 pub mod Stops
 pub mod Taken

@@ -1,17 +1,19 @@
 -- How a run goes on, part after part.
-use Rattle.std.proofs.Common.{◌≡◌, ℕ, ◌+◌, ◌≤◌, List, [], ◌∷◌, ◌++◌, length, take, Result, Ok, Err, refl, sym, ap, subst, ◌∙◌, arith, append_assoc, length-append}
+use Rattle.std.proofs.Common.{◌≡◌, ℕ, ◌+◌, ◌≤◌, false, List, [], ◌∷◌, ◌++◌, length, take, Result, Ok, Err, refl, sym, ap, subst, ◌∙◌, arith, append_assoc, length-append}
 use Rattle.std.specs.Result.{IsErrAnd}
 use Rattle.std.proofs.lemmas.List.{take-append-le, take_all}
 use Rattle.hs_host.specs.declared.source.Source as source
 use Rattle.hs_host.specs.declared.host.Host as host
 use Rattle.hs_host.specs.Files.{Five, IsHonest, IsOpen}
-use Rattle.hs_host.specs.Moments.{Since}
+use Rattle.hs_host.specs.Moments.{Moment, Since}
 use Rattle.hs_host.specs.Used.{Told, UsesInput}
 use Rattle.hs_host.proofs.Passing.{since_none, since_join, since_weaker, read_disks}
 use Rattle.hs_log.specs.Log.{IsLog, epoch_in}
 use Rattle.hs_log.proofs.Logs.{log_on as log_stays}
 use Rattle.hs_entries.specs.Left.{KeepsRoom, Left}
-use Rattle.hs_entries.specs.Reader.{left as input_left, left_items, left_whole}
+use Rattle.hs_entries.specs.Left.{whole_of}
+use Rattle.hs_entries.specs.Reader.{ahead as reader_ahead, has_ended, left as input_left, left_items, left_over, left_whole, next_number, room}
+use Rattle.hs_entries.specs.declared.reader.EntryReader.{EntryReader}
 use Rattle.hs_machine.specs.Acknowledged.{AcknowledgesLines}
 use Rattle.hs_run.specs.declared.outgoing.Outgoing.{Outgoing}
 use Rattle.hs_run.specs.declared.running.Running.{Running}
@@ -22,11 +24,14 @@ use Rattle.hs_run.specs.Holding.{IsGathered, WritesPrefix}
 use Rattle.hs_run.specs.Outgoing.{HandsOn, IsServing, IsTelling, failing, standing_with}
 use Rattle.hs_run.specs.Pieces.{AreTrue, Gives, Piece, told_by, made_by}
 use Rattle.hs_run.specs.Future.{Counts, Future}
-use Rattle.hs_run.specs.Running.{EndsWithin, Follows, GoesOn, HasNext, IsSane, IsTooLong, MovesOn, ahead, ahead_within, pieces}
+use Rattle.hs_run.specs.declared.gathered.Gathered.{Gathered}
+use Rattle.hs_run.specs.Prompt.{AsksNothing, IsPrompt}
+use Rattle.hs_run.specs.Running.{EndsWithin, Follows, GoesOn, HasNext, IsDue, IsSane, IsTooLong, MovesOn, ahead, ahead_within, pieces}
 use Rattle.hs_run.specs.Stop.{NoFaults, RunStops}
 use Rattle.hs_run.proofs.Holding.{handed_reading, held_telling}
 use Rattle.hs_run.proofs.Lines.{append_tells}
 use Rattle.hs_run.proofs.Prefixes.{front_after, front_behind, nothing_yet}
+use Rattle.hs_run.proofs.Prompt.{unasked_prompt, unasked_taken}
 use Rattle.hs_run.proofs.Stops.{not_ok, ok_weaker, stopped_by}
 use Rattle.hs_run.proofs.Used.{input_log, told_on_log, turns_none, turns_on}
 
@@ -38,13 +43,46 @@ module _ {T H : Type 0} (t : turns.Ghosts T) (s : source.Ghosts H) (g : host.Gho
   abbrev pub done : {R : Type 0} → R → Result R Stop
   done x = Ok x
 
+  -- ---- what is due
+
+  -- in a part of a run input is asked for when that is written
+  abbrev pub Prompts : Running T → H → H → Type 0
+  Prompts a h0 h1 = (f : Future) → IsSane t s g f a h0 → Told s g h0 → (due : List ℕ → List ℕ) (start : Moment) → IsDue g due start f a h0 → Since (IsPrompt due start) (g.history h0) (g.history h1)
+
+  pub prompts_silent : (a : Running T) (h0 h1 : H) → AsksNothing s g h0 h1 → Prompts a h0 h1
+  prompts_silent a h0 h1 silent f sane told due start is_due = unasked_prompt due start (silent told)
+
+  pub prompts_then : (a : Running T) (h0 h1 h2 : H) → (Told s g h0 → Told s g h1) → Prompts a h0 h1 → AsksNothing s g h1 h2 → Prompts a h0 h2
+  prompts_then a h0 h1 h2 still first silent f sane told due start is_due = since_join (first f sane told due start is_due) (unasked_prompt due start (silent (still told)))
+
+  -- what is gathered goes out, where the reader has the same before it
+  pub due_handing : (f : Future) (a b : Running T) (h0 h1 : H) → reader_ahead b.reader ≡ reader_ahead a.reader → room b.reader ≡ room a.reader → next_number b.reader ≡ next_number a.reader → has_ended b.reader ≡ has_ended a.reader
+      → (g.history h1).now.taken ≡ (g.history h0).now.taken → g.written h1 ++ b.outgoing.gathered.told ≡ g.written h0 ++ a.outgoing.gathered.told → (due : List ℕ → List ℕ) (start : Moment) → IsDue g due start f a h0 → IsDue g due start f b h1
+  due_handing f a b h0 h1 ahead_is room_is number ended taken told due start is_due = record {
+    given = is_due.given;
+    taken = taken ∙ is_due.taken;
+    told = λ on rest within.
+        let same : left_over b.reader rest ≡ left_over a.reader rest = rw (ahead_is, room_is, number) refl in
+        ap (λ (l : Left). g.written h1 ++ (b.outgoing.gathered.told ++ told_by (f.taken (whole_of l)))) same
+        ∙ behind (g.written h0) a.outgoing.gathered.told (g.written h1) b.outgoing.gathered.told (told_by (f.taken (whole_of (left_over a.reader rest)))) told
+        ∙ is_due.told (sym ended ∙ on) rest (omega (arith, within, room_is, ap (λ (l : List ℕ). length (l ++ rest)) ahead_is));
+  }
+
+  -- a piece is gathered
+  pub told_gives : (w : List ℕ) (old new : Gathered) (before after : List Piece) → Gives before after old new → w ++ (new.told ++ told_by after) ≡ w ++ (old.told ++ told_by before)
+  told_gives w old new before after gives =
+      ap (λ (l : List ℕ). w ++ l) (ap (λ (l : List ℕ). l ++ told_by after) gives.told ∙ append_assoc old.told gives.piece.told (told_by after) ∙ ap (λ (l : List ℕ). old.told ++ l) (sym (ap told_by gives.is)))
+
+  -- ---- parts
+
   -- nothing is done
   pub moves_none : {R : Type 0} (r : Running T) (h : H) (x : R) → MovesOn t s g r h r h (done x)
   moves_none {R} r h x = λ f sane. record {
-    next = record { future = f; sane = sane; goes_on = record { told = λ _. refl; within = λ _ _. refl; made = λ _. refl; commits = λ _. refl; count = λ _. omega arith } };
+    next = record { future = f; sane = sane; goes_on = record { told = λ _. refl; within = λ _ _. refl; made = λ _. refl; commits = λ _. refl; count = λ _. omega arith; due = λ _ due start is_due. is_due } };
     telling = λ _ least before tell. tell;
     front = λ _. nothing_yet (g.written h) _;
     moments = λ _ least before tell. since_none _ (g.history h);
+    prompt = λ _ due start is_due. since_none _ (g.history h);
     ends = turns_none h x;
   }
 
@@ -55,6 +93,7 @@ module _ {T H : Type 0} (t : turns.Ghosts T) (s : source.Ghosts H) (g : host.Gho
     made = λ told. bc.made (still told) ∙ ab.made told;
     commits = λ tells. bc.commits tells ∙ ab.commits tells;
     count = λ tells. omega (arith, ab.count tells, bc.count tells);
+    due = λ told due start is_due. bc.due (still told) due start (ab.due told due start is_due);
   }
 
   next_on : (f : Future) (a b c : Running T) (h0 h1 h2 : H) → (Told s g h0 → Told s g h1) → (ab : HasNext t s g f a h0 b h1) → HasNext t s g ab.future b h1 c h2 → HasNext t s g f a h0 c h2
@@ -72,6 +111,7 @@ module _ {T H : Type 0} (t : turns.Ghosts T) (s : source.Ghosts H) (g : host.Gho
         moments = λ told least before tell.
             since_join (ab.moments told least before tell)
             (subst (λ (ts : List (List ℕ)). Since (IsHeld least ts before) (g.history h1) (g.history h2)) (ab.next.goes_on.made told) (bc.moments (told_on_log ab.ends.uses told) least before (ab.telling told least before tell)));
+        prompt = λ told due start is_due. since_join (ab.prompt told due start is_due) (bc.prompt (told_on_log ab.ends.uses told) due start (ab.next.goes_on.due told due start is_due));
         ends = turns_on result ab.ends.uses ab.ends.calm bc.ends;
       }
 
@@ -92,6 +132,7 @@ module _ {T H : Type 0} (t : turns.Ghosts T) (s : source.Ghosts H) (g : host.Gho
         telling = λ told least before tell. not_ok _ result stop is;
         front = ab.front;
         moments = ab.moments;
+        prompt = ab.prompt;
         ends = record { uses = ab.ends.uses; calm = not_ok _ result stop is; stops = stopped_by (RunStops s g h0 h1) result stop is ab.ends.stops };
       }
 
@@ -104,6 +145,7 @@ module _ {T H : Type 0} (t : turns.Ghosts T) (s : source.Ghosts H) (g : host.Gho
         telling = ab.telling;
         front = ab.front;
         moments = ab.moments;
+        prompt = ab.prompt;
         ends = record { uses = ab.ends.uses; calm = ab.ends.calm; stops = tt };
       }
 
@@ -114,15 +156,18 @@ module _ {T H : Type 0} (t : turns.Ghosts T) (s : source.Ghosts H) (g : host.Gho
   -- what is gathered goes out, where the same items are left
   pub moves_with : {R : Type 0} (a b : Running T) (h0 h1 : H) (result : Result R Stop) → b.turns ≡ a.turns → (s.tells → left_items b.reader (s.unread h1) ≡ left_items a.reader (s.unread h0))
       → (s.tells → IsTooLong a (s.unread h0) → left_whole b.reader (s.unread h1) ≡ left_whole a.reader (s.unread h0)) → (s.tells → KeepsRoom (input_left a.reader (s.unread h0)) (input_left b.reader (s.unread h1)))
-      → HandsOn s g a.outgoing h0 b.outgoing h1 result → MovesOn t s g a h0 b h1 result
-  moves_with {R} a b h0 h1 (Err e) turns same_items same_whole count hands = λ f sane. record {
+      → HandsOn s g a.outgoing h0 b.outgoing h1 result → Prompts a h0 h1
+      → (Told s g h0 → g.written h1 ++ b.outgoing.gathered.told ≡ g.written h0 ++ a.outgoing.gathered.told → (f : Future) (due : List ℕ → List ℕ) (start : Moment) → IsDue g due start f a h0 → IsDue g due start f b h1)
+      → MovesOn t s g a h0 b h1 result
+  moves_with {R} a b h0 h1 (Err e) turns same_items same_whole count hands prompts due_on = λ f sane. record {
     next = tt;
     telling = hands.telling;
     front = λ tells. front_behind (g.written h0) (g.written h1) a.outgoing.gathered.told (told_by (ahead f a (s.unread h0))) (hands.front tells);
     moments = λ told least before tell. hands.moments told least before tell (made_by (ahead f a (s.unread h0)));
+    prompt = prompts f sane;
     ends = hands.ends;
   }
-  moves_with {R} a b h0 h1 (Ok x) turns same_items same_whole count hands = λ f sane.
+  moves_with {R} a b h0 h1 (Ok x) turns same_items same_whole count hands prompts due_on = λ f sane.
       let items : s.tells → ahead f b (s.unread h1) ≡ ahead f a (s.unread h0) = λ tells. ap (pieces f) (same_items tells) in
       let whole : s.tells → IsTooLong a (s.unread h0) → ahead_within f b (s.unread h1) ≡ ahead_within f a (s.unread h0) = λ tells more. ap f.taken (same_whole tells more) in
       record {
@@ -142,29 +187,34 @@ module _ {T H : Type 0} (t : turns.Ghosts T) (s : source.Ghosts H) (g : host.Gho
             made = λ told. ap (λ (p : List Piece). texts_in (g.files h1) ++ (b.outgoing.gathered.made ++ made_by p)) (items told.tells) ∙ behind (texts_in (g.files h0)) a.outgoing.gathered.made (texts_in (g.files h1)) b.outgoing.gathered.made (made_by (ahead f a (s.unread h0))) (hands.made told);
             commits = λ tells. ap (λ (p : List Piece). f.commits + length (made_by p)) (items tells);
             count = count;
+            due = λ told. due_on told (hands.told told.tells) f;
           };
         };
         telling = hands.telling;
         front = λ tells. front_behind (g.written h0) (g.written h1) a.outgoing.gathered.told (told_by (ahead f a (s.unread h0))) (hands.front tells);
         moments = λ told least before tell. hands.moments told least before tell (made_by (ahead f a (s.unread h0)));
+        prompt = prompts f sane;
         ends = hands.ends;
       }
 
   -- the same where the reader is as it was
-  pub moves_handing : {R : Type 0} (a b : Running T) (h0 h1 : H) (result : Result R Stop) → b.reader ≡ a.reader → b.turns ≡ a.turns → s.unread h1 ≡ s.unread h0 → HandsOn s g a.outgoing h0 b.outgoing h1 result → MovesOn t s g a h0 b h1 result
-  moves_handing {R} a b h0 h1 result reader turns unread hands =
+  pub moves_handing : {R : Type 0} (a b : Running T) (h0 h1 : H) (result : Result R Stop) → b.reader ≡ a.reader → b.turns ≡ a.turns → s.unread h1 ≡ s.unread h0 → HandsOn s g a.outgoing h0 b.outgoing h1 result → AsksNothing s g h0 h1 → MovesOn t s g a h0 b h1 result
+  moves_handing {R} a b h0 h1 result reader turns unread hands silent =
       moves_with a b h0 h1 result turns (λ _. rw (reader, unread) refl) (λ _ _. rw (reader, unread) refl)
       (λ _. let room : input_left b.reader (s.unread h1) ≡ input_left a.reader (s.unread h0) = rw (reader, unread) refl in omega (arith, ap (λ (l : Left). l.room) room, ap (λ (l : Left). length l.input) room)) hands
+      (prompts_silent a h0 h1 silent)
+      (λ told is f due start. due_handing f a b h0 h1 (ap reader_ahead reader) (ap room reader) (ap next_number reader) (ap has_ended reader) (unasked_taken (silent told)) is due start)
 
   -- a run ends for want of memory, whatever takes turns has become
-  pub moves_wanting : {R : Type 0} (a b : Running T) (o o1 : Outgoing) (h0 h1 : H) (stop : Stop) → o ≡ a.outgoing → HandsOn s g o h0 o1 h1 (failing stop) → MovesOn {R = R} t s g a h0 b h1 (Err stop)
-  moves_wanting {R} a b o o1 h0 h1 stop same hands = λ f sane.
+  pub moves_wanting : {R : Type 0} (a b : Running T) (o o1 : Outgoing) (h0 h1 : H) (stop : Stop) → o ≡ a.outgoing → HandsOn s g o h0 o1 h1 (failing stop) → Prompts a h0 h1 → MovesOn {R = R} t s g a h0 b h1 (Err stop)
+  moves_wanting {R} a b o o1 h0 h1 stop same hands prompts = λ f sane.
       let all : HandsOn s g a.outgoing h0 o1 h1 (failing stop) = subst (λ (x : Outgoing). HandsOn s g x h0 o1 h1 (failing stop)) same hands in
       record {
         next = tt;
         telling = λ _ least before tell. tt;
         front = λ tells. front_behind (g.written h0) (g.written h1) a.outgoing.gathered.told (told_by (ahead f a (s.unread h0))) (all.front tells);
         moments = λ told least before tell. all.moments told least before tell (made_by (ahead f a (s.unread h0)));
+        prompt = prompts f sane;
         ends = record { uses = all.ends.uses; calm = tt; stops = all.ends.stops };
       }
 
@@ -181,7 +231,7 @@ module _ {T H : Type 0} (t : turns.Ghosts T) (s : source.Ghosts H) (g : host.Gho
   marked_within (x ∷ made) all before within = within
 
   -- Only the input was used, and a piece was gathered.
-  module _ (f next : Future) (a b : Running T) (h0 h1 : H) (sane : IsSane t s g f a h0) (at : t.has_ahead b.turns next) (input : UsesInput s g h0 h1) (later : s.input_faults h0 ≤ s.input_faults h1) (calm : NoFaults s g h0 h1) (out : s.tells → (g.history h0).now.out ≡ g.written h0) (log : b.outgoing.log ≡ a.outgoing.log) (marked : b.outgoing.standing ≡ standing_with b.outgoing.gathered.made (length b.outgoing.gathered.told) a.outgoing.standing) (grown : length a.outgoing.gathered.told ≤ length b.outgoing.gathered.told) (commits : Counts f next a.outgoing.gathered b.outgoing.gathered) (all : s.tells → Gives (ahead f a (s.unread h0)) (ahead next b (s.unread h1)) a.outgoing.gathered b.outgoing.gathered) (whole : s.tells → IsTooLong a (s.unread h0) → Gives (ahead_within f a (s.unread h0)) (ahead_within next b (s.unread h1)) a.outgoing.gathered b.outgoing.gathered) (count : s.tells → KeepsRoom (input_left a.reader (s.unread h0)) (input_left b.reader (s.unread h1))) where
+  module _ (f next : Future) (a b : Running T) (h0 h1 : H) (sane : IsSane t s g f a h0) (at : t.has_ahead b.turns next) (input : UsesInput s g h0 h1) (later : s.input_faults h0 ≤ s.input_faults h1) (calm : NoFaults s g h0 h1) (out : s.tells → (g.history h0).now.out ≡ g.written h0) (log : b.outgoing.log ≡ a.outgoing.log) (marked : b.outgoing.standing ≡ standing_with b.outgoing.gathered.made (length b.outgoing.gathered.told) a.outgoing.standing) (grown : length a.outgoing.gathered.told ≤ length b.outgoing.gathered.told) (commits : Counts f next a.outgoing.gathered b.outgoing.gathered) (all : s.tells → Gives (ahead f a (s.unread h0)) (ahead next b (s.unread h1)) a.outgoing.gathered b.outgoing.gathered) (whole : s.tells → IsTooLong a (s.unread h0) → Gives (ahead_within f a (s.unread h0)) (ahead_within next b (s.unread h1)) a.outgoing.gathered b.outgoing.gathered) (count : s.tells → KeepsRoom (input_left a.reader (s.unread h0)) (input_left b.reader (s.unread h1))) (prompts : Prompts a h0 h1) (due_on : Told s g h0 → (due : List ℕ → List ℕ) (start : Moment) → IsDue g due start f a h0 → IsDue g due start next b h1) where
     still : Told s g h1 → Told s g h0
     still told = record { tells = told.tells; honest = subst IsHonest input.standing told.honest }
 
@@ -254,6 +304,7 @@ module _ {T H : Type 0} (t : turns.Ghosts T) (s : source.Ghosts H) (g : host.Gho
           commits = λ tells.
               omega (arith, commits, made_count tells, ap (λ (p : List Piece). length (made_by p)) (all tells).is, length-append (all tells).piece.made (made_by (ahead next b (s.unread h1))));
           count = count;
+          due = due_on;
         };
       };
       telling = λ told least before tell. record {
@@ -267,5 +318,6 @@ module _ {T H : Type 0} (t : turns.Ghosts T) (s : source.Ghosts H) (g : host.Gho
           let now = subst (λ (w : List ℕ). IsGathered before w part (length (texts_in (g.files h0)))) (sym (out told.tells)) tell.stands in
           since_weaker (input.moments told.tells)
           (λ m reading. held_telling (g.files h0) (g.history h0) a.outgoing.log (sane.serving.log told) sane.serving.epoch least before tell.enough part (a.outgoing.gathered.made ++ made_by (ahead f a (s.unread h0))) m now (handed_reading (g.history h0).now m part reading));
+      prompt = prompts f sane;
       ends = record { uses = input_log input later; calm = calm; stops = tt };
     }

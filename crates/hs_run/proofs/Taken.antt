@@ -1,13 +1,14 @@
 -- Items that are taken from those that are left.
-use Rattle.std.proofs.Common.{◌≡◌, ◌<◌, ℕ, Bool, true, false, cond, List, [], ◌∷◌, ◌++◌, take, refl, sym, ap, ◌∙◌}
+use Rattle.std.proofs.Common.{◌≡◌, ◌<◌, ◌≤◌, ℕ, Bool, true, false, cond, List, [], ◌∷◌, ◌++◌, length, take, refl, sym, ap, ◌∙◌}
+use Rattle.std.proofs.lemmas.List.{take_all}
 use Rattle.hs_entries.specs.declared.item.Item.{Item}
 use Rattle.hs_entries.specs.declared.item.Item.TheVariants.{Entry, Bad, TooLong, End}
 use Rattle.hs_entries.specs.declared.place.Place.TheVariants.{Between}
 use Rattle.hs_entries.specs.declared.reader.EntryReader.{EntryReader}
 use Rattle.hs_entries.specs.Place.{is_entry}
 use Rattle.hs_entries.specs.Items.{items_from, cut_items, no_items, items, whole_items}
-use Rattle.hs_entries.specs.Left.{TakesFirst, TakesWhole}
-use Rattle.hs_entries.specs.Reader.{ahead, has_ended, left, room, next_number, left_items, left_whole, Shrinks}
+use Rattle.hs_entries.specs.Left.{TakesFirst, TakesWhole, whole_of}
+use Rattle.hs_entries.specs.Reader.{ahead, has_ended, left, room, next_number, left_items, left_over, left_whole, Shrinks}
 use Rattle.hs_run.specs.Items.{is_end}
 
 pub taken : (item : Item) (before after : List Item) → is_end item ≡ false → TakesFirst before item after → before ≡ item ∷ after
@@ -60,6 +61,11 @@ fresh_whole r input limit begun none first all =
     ∙ ap (λ (n : ℕ). items_from no_items n Between [] (take (room r) (ahead r ++ input))) first
     ∙ ap (λ (k : ℕ). whole_items 1 (take k (ahead r ++ input))) all
     ∙ ap (λ (l : List ℕ). whole_items 1 (take limit (l ++ input))) none
+
+pub fresh_over : (r : EntryReader) (bytes : List ℕ) → ahead r ≡ [] → next_number r ≡ 1 → length (ahead r ++ bytes) ≤ room r → whole_of (left_over r bytes) ≡ whole_items 1 bytes
+fresh_over r bytes none first within =
+    ap (λ (n : ℕ). items_from no_items n Between [] (take (room r) (ahead r ++ bytes))) first
+    ∙ ap (whole_items 1) (take_all (room r) (ahead r ++ bytes) within) ∙ ap (λ (l : List ℕ). whole_items 1 (l ++ bytes)) none
 
 -- at the end none is taken from those that are whole
 pub taken_none : (item : Item) (before after : List Item) → is_end item ≡ true → TakesWhole before item after → ⊥

@@ -6,8 +6,10 @@ use Rattle.hs_host.specs.Files.{Five, IsHonest}
 use Rattle.hs_host.specs.Moments.{Since}
 use Rattle.hs_host.specs.Used.{Told}
 use Rattle.hs_host.proofs.Passing.{since_join}
+use Rattle.hs_entries.specs.declared.item.Item.{Item}
 use Rattle.hs_entries.specs.Items.{items, whole_items}
-use Rattle.hs_entries.specs.Reader.{ahead as reader_ahead, has_ended, kept as fault_kept, left_items, next_number, room}
+use Rattle.hs_entries.specs.Left.{whole_of}
+use Rattle.hs_entries.specs.Reader.{ahead as reader_ahead, has_ended, kept as fault_kept, left_items, left_over, next_number, room}
 use Rattle.hs_log.specs.declared.log.Log.{Log}
 use Rattle.hs_log.specs.Log.{IsWholeLog}
 use Rattle.hs_run.specs.declared.outgoing.Outgoing.{Outgoing}
@@ -20,23 +22,28 @@ use Rattle.hs_run.specs.Lines.{closed_line, opened_line}
 use Rattle.hs_run.specs.Outgoing.{Closes, Opens}
 use Rattle.hs_run.specs.Pieces.{AreTrue, Piece, made_by, told_by, transcript, transcript_within}
 use Rattle.hs_run.specs.Future.{Future}
-use Rattle.hs_run.specs.Running.{EndsWithin, Follows, HasNoneAhead, IsBeginning, IsOver, IsReading, IsSane, ahead, ahead_within, pieces}
+use Rattle.hs_run.specs.Prompt.{AsksNothing, IsPrompt, due_for}
+use Rattle.hs_run.specs.Running.{EndsWithin, Follows, HasNoneAhead, IsBeginning, IsDue, IsOver, IsReading, IsSane, ahead, ahead_within, pieces}
 use Rattle.hs_run.specs.Used.{TakesTurns}
 use Rattle.hs_run.proofs.Moving.{done}
 use Rattle.hs_run.proofs.Given.{items_told}
 use Rattle.hs_run.proofs.Prefixes.{front_after, front_on}
-use Rattle.hs_run.proofs.Taken.{begun_not_ended, fresh_input, fresh_items, fresh_whole, none_left, over_input}
+use Rattle.hs_run.proofs.Prompt.{unasked_prompt, unasked_taken}
+use Rattle.hs_run.proofs.Taken.{begun_not_ended, fresh_input, fresh_items, fresh_over, fresh_whole, none_left, over_input}
 use Rattle.hs_run.proofs.Used.{told_on_log, turns_on}
 
--- what is written, what a crash leaves, and what is used, of a whole run
+-- what is written, what a crash leaves, when input is asked for, and what is used, of a whole run
 pub record Runs {R H : Type 0} (s : source.Ghosts H) (g : host.Ghosts H) (f : Future) (old new : H) (result : Result R Stop) : Type 0 where
   pub front : s.tells → WritesPrefix (g.written old) (g.written new) (transcript f.commits (pieces f (items 1 (s.unread old))))
   pub moments : Told s g old → Since (IsHeld (length (texts_in (g.files old))) (texts_in (g.files old) ++ made_by (pieces f (items 1 (s.unread old)))) (g.written old)) (g.history old) (g.history new)
+  pub prompt : Told s g old → Since (IsPrompt (due_for f) (g.history old).now) (g.history old) (g.history new)
   pub ends : TakesTurns s g old new result
 
 -- the first line was written, and a new reader has the whole input before it
 pub record IsStarted {T H : Type 0} (s : source.Ghosts H) (g : host.Ghosts H) (f : Future) (turns : T) (h : H) (o : Outgoing) (r : Running T) (h1 : H) : Type 0 where
   pub opens : Opens {R = Unit {0}} s g f.commits o h r.outgoing h1 (Ok tt)
+  pub out : s.tells → (g.history h).now.out ≡ g.written h
+  pub silent : AsksNothing s g h h1
   pub unread : s.unread h1 ≡ s.unread h
   pub turns_is : r.turns ≡ turns
   pub kept : fault_kept r.reader ≡ None
@@ -53,10 +60,11 @@ module _ {T H : Type 0} (t : turns.Ghosts T) (s : source.Ghosts H) (g : host.Gho
   all = pieces f (items 1 (s.unread h))
 
   -- the first line couldn't be written
-  pub runs_opening : {R : Type 0} (o o1 : Outgoing) (h1 : H) (result : Result R Stop) → Opens s g commits o h o1 h1 result → Runs s g f h h1 result
-  runs_opening o o1 h1 result opens = record {
+  pub runs_opening : {R : Type 0} (o o1 : Outgoing) (h1 : H) (result : Result R Stop) → Opens s g commits o h o1 h1 result → AsksNothing s g h h1 → Runs s g f h h1 result
+  runs_opening o o1 h1 result opens silent = record {
     front = λ tells. front_on (g.written h) (g.written h) (g.written h1) (opened_line commits) (told_by all ++ closed_line (commits + length (made_by all))) _ refl (omega arith) (opens.front tells);
     moments = λ told. opens.moments told (made_by all);
+    prompt = λ told. unasked_prompt (due_for f) (g.history h).now (silent told);
     ends = opens.ends;
   }
 
@@ -99,6 +107,22 @@ module _ {T H : Type 0} (t : turns.Ghosts T) (s : source.Ghosts H) (g : host.Gho
         since_join (started.opens.moments told (made_by all))
         (subst (λ (ts : List (List ℕ)). Since (IsHeld (length (texts_in (g.files h))) ts (g.written h)) (g.history h1) (g.history h2)) (so_made told) (moves.moments (told_on_log started.opens.ends.uses told) _ _ (started.opens.telling told)))
 
+    -- before any input was taken the first line is due, and was written
+    first_due : Told s g h → IsDue g (due_for f) (g.history h).now f r h1
+    first_due told = record {
+      given = [];
+      taken = unasked_taken (started.silent told) ∙ sym (append-nil (g.history h).now.taken);
+      told = λ goes_on rest within.
+          ap (λ (l : List ℕ). g.written h1 ++ (l ++ told_by (f.taken (whole_of (left_over r.reader rest))))) started.opens.none_told
+          ∙ ap (λ (is : List Item). g.written h1 ++ told_by (f.taken is)) (fresh_over r.reader rest started.none started.first within)
+          ∙ ap (λ (w : List ℕ). w ++ told_by (f.taken (whole_items 1 rest))) (started.opens.told told.tells ∙ ap (λ (w : List ℕ). w ++ opened_line commits) (sym (started.out told.tells)))
+          ∙ append_assoc (g.history h).now.out (opened_line commits) (told_by (f.taken (whole_items 1 rest)));
+    }
+
+    prompted : {R : Type 0} (r2 : Running T) (h2 : H) (result : Result R Stop) → Follows t s g f r h1 r2 h2 result → Told s g h → Since (IsPrompt (due_for f) (g.history h).now) (g.history h) (g.history h2)
+    prompted r2 h2 result moves told =
+        since_join (unasked_prompt (due_for f) (g.history h).now (started.silent told)) (moves.prompt (told_on_log started.opens.ends.uses told) (due_for f) (g.history h).now (first_due told))
+
     -- the run stopped before its last line
     pub runs_moving : {R : Type 0} (r2 : Running T) (h2 : H) (result : Result R Stop) → Follows t s g f r h1 r2 h2 result → Runs s g f h h2 result
     runs_moving r2 h2 result moves = record {
@@ -108,6 +132,7 @@ module _ {T H : Type 0} (t : turns.Ghosts T) (s : source.Ghosts H) (g : host.Gho
           ∙ append_assoc (g.written h) (opened_line commits ++ told_by all) (closed_line (commits + length (made_by all))) ∙ ap (λ (l : List ℕ). g.written h ++ l) (append_assoc (opened_line commits) (told_by all) (closed_line (commits + length (made_by all)))))
           (omega (arith, ap length (started.opens.told tells), length-append (g.written h) (opened_line commits))) (moves.front tells);
       moments = moved r2 h2 result moves;
+      prompt = prompted r2 h2 result moves;
       ends = turns_on result started.opens.ends.uses started.opens.ends.calm moves.ends;
     }
 
@@ -150,8 +175,8 @@ module _ {T H : Type 0} (t : turns.Ghosts T) (s : source.Ghosts H) (g : host.Gho
           ∙ append_assoc (g.written h) (opened_line commits ++ told_by all) (closed_line count) ∙ ap (λ (l : List ℕ). g.written h ++ l) (append_assoc (opened_line commits) (told_by all) (closed_line count))
           ∙ ap (λ (n : ℕ). g.written h ++ (opened_line commits ++ (told_by all ++ closed_line n))) (last_commits tells)
 
-      pub runs_closing : {R : Type 0} (h4 : H) (result : Result R Stop) → Closes s g count r3.outgoing h3 h4 result → Runs s g f h h4 result
-      runs_closing h4 result closes =
+      pub runs_closing : {R : Type 0} (h4 : H) (result : Result R Stop) → Closes s g count r3.outgoing h3 h4 result → AsksNothing s g h3 h4 → Runs s g f h h4 result
+      runs_closing h4 result closes silent =
           let so_far = turns_on (done t s g tt) started.opens.ends.uses started.opens.ends.calm moves.ends in
           record {
             front = λ tells. front_after (g.written h) (g.written h3) (g.written h4) (r3.outgoing.gathered.told ++ closed_line count) _ (whole tells)
@@ -160,6 +185,7 @@ module _ {T H : Type 0} (t : turns.Ghosts T) (s : source.Ghosts H) (g : host.Gho
                 since_join (moved r3 h3 (done t s g tt) moves told)
                 (subst (λ (ts : List (List ℕ)). Since (IsHeld (length (texts_in (g.files h))) ts (g.written h)) (g.history h3) (g.history h4)) (made_all told)
                 (closes.moments (told_on_log so_far.uses told) _ _ (moves.telling (told_on_log started.opens.ends.uses told) _ _ (started.opens.telling told))));
+            prompt = λ told. since_join (prompted r3 h3 (done t s g tt) moves told) (unasked_prompt (due_for f) (g.history h).now (silent (told_on_log so_far.uses told)));
             ends = turns_on result so_far.uses so_far.calm closes.ends;
           }
 

@@ -5,6 +5,7 @@ pub mod Items
 pub mod Lines
 pub mod Outgoing
 pub mod Pieces
+pub mod Prompt
 pub mod Running
 pub mod Stop
 pub mod Used

@@ -7,6 +7,7 @@ ghost use Rattle.hs_log.specs.Log.{IsLog, epoch_in};
 ghost use Rattle.hs_run.specs.Crash.{texts_in};
 ghost use Rattle.hs_run.specs.Holding.{IsHandedOver, WritesPrefix};
 ghost use Rattle.hs_run.specs.Outgoing.{HandsOn, failing, IsLogging, IsServing, marked};
+ghost use Rattle.hs_run.specs.Prompt.{AsksNothing};
 ghost use Rattle.hs_run.specs.Stop.{DiskStops, NoFaults, RunStops};
 
 use crate::flush::flush;
@@ -68,6 +69,7 @@ impl Outgoing {
     pub fn hand_over<H: Host>(&mut self, host: &mut H) -> Result<(), Stop>
         requires serving { IsServing H.Source H.Host.own self.old host.old }
         ensures hands { HandsOn H.Source H.Host.own self.old host.old self.new host.new result }
+        ensures unasked { AsksNothing H.Source H.Host.own host.old host.new }
         ensures unread { H.unread host.new ≡ H.unread host.old }
         ensures done { H.tells → OnOk result (H.written host.new ≡ H.written host.old ++ self.old.gathered.told) }
         ensures empty { OnOk result (self.new.gathered.told ≡ []) }
@@ -87,6 +89,7 @@ impl Outgoing {
         requires { self.old.standing ≤ length self.old.gathered.told }
         ensures front { H.tells → WritesPrefix (H.written host.old) (H.written host.new) (take self.old.standing self.old.gathered.told) }
         ensures moments { H.tells → Since (IsHandedOver (H.history host.old).now (take self.old.standing self.old.gathered.told)) (H.history host.old) (H.history host.new) }
+        ensures unasked { AsksNothing H.Source H.Host.own host.old host.new }
         ensures uses { UsesOutput H.Source H.Host.own host.old host.new }
         ensures short { (first : H) → DiskStops H.Source H.Host.own first host.old stop → result ≡ Stop.TooLong → ⊥ }
         ensures stops { (first : H) → DiskStops H.Source H.Host.own first host.old stop → RunStops H.Source H.Host.own first host.new result }
@@ -114,6 +117,7 @@ impl Outgoing {
         requires serving { IsServing H.Source H.Host.own self.old host.old }
         ensures short { IsErrOf result Stop.TooLong → ⊥ }
         ensures hands { HandsOn H.Source H.Host.own self.old host.old self.new host.new result }
+        ensures unasked { AsksNothing H.Source H.Host.own host.old host.new }
         ensures unread { H.unread host.new ≡ H.unread host.old }
     {
         if self.gathered.told.len() < MOST_TOLD && !self.is_full() {
@@ -127,6 +131,7 @@ impl Outgoing {
         requires serving { IsServing H.Source H.Host.own self.old host.old }
         ensures short { result ≡ Stop.TooLong → ⊥ }
         ensures hands { HandsOn H.Source H.Host.own self.old host.old self.new host.new (failing result) }
+        ensures unasked { AsksNothing H.Source H.Host.own host.old host.new }
         ensures unread { H.unread host.new ≡ H.unread host.old }
     {
         match self.hand_over(host) {
@@ -139,6 +144,7 @@ impl Outgoing {
     pub fn cut<H: Host>(&mut self, host: &mut H) -> Stop
         requires serving { IsServing H.Source H.Host.own self.old host.old }
         ensures hands { HandsOn H.Source H.Host.own self.old host.old self.new host.new (failing result) }
+        ensures unasked { AsksNothing H.Source H.Host.own host.old host.new }
         ensures unread { H.unread host.new ≡ H.unread host.old }
         ensures done { H.tells → result ≡ Stop.TooLong → H.written host.new ≡ H.written host.old ++ self.old.gathered.told }
     {

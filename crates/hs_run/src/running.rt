@@ -1,8 +1,9 @@
 // A run at work.
-ghost use Rattle.std.specs.Prelude.{◌≡◌, ◌<◌, ◌≤◌, None, true, false, IfOk, IsErrOf, OnOk};
+ghost use Rattle.std.specs.Prelude.{◌≡◌, ◌<◌, ◌≤◌, [], None, true, false, IfOk, IsErrOf, OnOk};
 ghost use Rattle.hs_entries.specs.Left.{IsBeyond};
-ghost use Rattle.hs_entries.specs.Reader.{AgreesWith, kept, left, room};
-ghost use Rattle.hs_entries.specs.Taking.{Counts, TakesItem};
+ghost use Rattle.hs_entries.specs.Asking.{Asks};
+ghost use Rattle.hs_entries.specs.Reader.{AgreesWith, has_ended, is_ready as is_ready_at, is_ready_with, kept, left, rests as rests_at, room};
+ghost use Rattle.hs_entries.specs.Taking.{Counts, IsGiven, TakesItem};
 ghost use Rattle.hs_entries.specs.Calls.{HasInputCause};
 ghost use Rattle.hs_host.specs.Used.{UsesInput};
 ghost use Rattle.hs_run.specs.Future.{Future};
@@ -67,6 +68,7 @@ impl<T: Turns> Running<T> {
         ensures moves { MovesOn T.Turns H.Source H.Host.own self.old host.old self.new host.new result }
         ensures turns { self.new.turns ≡ self.old.turns }
         ensures reader { IsSameReader self.old.reader self.new.reader }
+        ensures ready { OnOk result (is_ready_at self.new.reader ≡ false → self.new.outgoing.gathered.told ≡ []) }
         ensures unread { H.unread host.new ≡ H.unread host.old }
         ensures short { IsErrOf result Stop.TooLong → ⊥ }
     {
@@ -80,6 +82,7 @@ impl<T: Turns> Running<T> {
     fn advance<H: Host>(&mut self, host: &mut H) -> Result<bool, Stop>
         requires sane { (f : Future) × IsSane T.Turns H.Source H.Host.own f self.old host.old }
         requires rests { T.rests self.old.turns }
+        requires ready { is_ready_at self.old.reader ≡ false → self.old.outgoing.gathered.told ≡ [] }
         requires reading { IsReading H.Source self.old host.old }
         ensures moves { MovesOn T.Turns H.Source H.Host.own self.old host.old self.new host.new result }
         ensures reading { OnOk result (IsReading H.Source self.new host.new) }
@@ -204,6 +207,10 @@ fn read_next<H: Host>(reader: &mut EntryReader, host: &mut H) -> Result<Item, In
     ensures sound { OnOk result (kept reader.new ≡ None) }
     ensures items { H.tells → IfOk result (λ item. TakesItem reader.old (H.unread host.old) item reader.new (H.unread host.new)) }
     ensures taken { IfOk result (λ item. is_end item ≡ false → IsTaken item) }
+    ensures given { IfOk result (λ item. has_ended reader.new ≡ false → IsGiven H.reads reader.old item reader.new host.old host.new) }
+    ensures needed { Asks H.reads (λ more. is_ready_with reader.old more ≡ false) (rests_at reader.new) host.old host.new }
+    ensures ready { is_ready_at reader.old ≡ true → host.new ≡ host.old }
+    ensures ended { has_ended reader.old ≡ true → has_ended reader.new ≡ true }
     ensures counts { IfOk result (λ item. Counts reader.old item reader.new) }
     ensures agrees { H.tells → AgreesWith reader.old (H.unread host.old) → AgreesWith reader.new (H.unread host.new) }
     ensures too_long { H.tells → IsErrOf result InputFault.TooLong → IsBeyond (left reader.old (H.unread host.old)) }

@@ -9,6 +9,7 @@ ghost use Rattle.hs_run.specs.Future.{Future};
 ghost use Rattle.hs_run.specs.Holding.{WritesPrefix};
 ghost use Rattle.hs_run.specs.Outgoing.{Closes, IsServing, Opens};
 ghost use Rattle.hs_run.specs.Pieces.{made_by, transcript, transcript_within};
+ghost use Rattle.hs_run.specs.Prompt.{AsksNothing, IsPrompt, due_for};
 ghost use Rattle.hs_run.specs.Running.{IsBeginning, pieces};
 ghost use Rattle.hs_run.specs.Used.{TakesTurns};
 
@@ -31,7 +32,8 @@ const MOST_INPUT: u64 = 1 << 30;
 /// stands on the disk, and what turns tell of commits is true.
 ///
 /// Whatever this ends with, what was written is a front of the transcript, and a crash at each moment leaves a log of the texts
-/// that were there and a front of those that turns make, with all commits that were told by then. After an `Ok` the input was
+/// that were there and a front of those that turns make, with all commits that were told by then. Before more of the input is
+/// asked for, all was written that comes with the items that are whole in what was taken of it. After an `Ok` the input was
 /// read to its end, the whole transcript was written, and the log has all texts.
 ///
 /// `Input`, `Output` and `Disk` come only where a call of that device failed, `NoMemory` is free, and `TooLong` comes only
@@ -49,6 +51,7 @@ pub fn take_turns<H: Host, T: Turns + Drop>(
     ensures read { H.tells → OnOk result ((H.unread host.new ≡ []) × (length (H.unread host.old) ≤ 2 ^ 30)) }
     ensures log { (f : Future) → IsBeginning T.Turns H.Source H.Host.own f turns log host.old → Told H.Source H.Host.own host.old → OnOk result (IsWholeLog 1 (texts_in (H.files host.old) ++ made_by (pieces f (items 1 (H.unread host.old)))) (H.files host.new).log) }
     ensures moments { (f : Future) → IsBeginning T.Turns H.Source H.Host.own f turns log host.old → Told H.Source H.Host.own host.old → Since (IsHeld (length (texts_in (H.files host.old))) (texts_in (H.files host.old) ++ made_by (pieces f (items 1 (H.unread host.old)))) (H.written host.old)) (H.history host.old) (H.history host.new) }
+    ensures prompt { (f : Future) → IsBeginning T.Turns H.Source H.Host.own f turns log host.old → Told H.Source H.Host.own host.old → Since (IsPrompt (due_for f) (H.history host.old).now) (H.history host.old) (H.history host.new) }
     ensures ends { TakesTurns H.Source H.Host.own host.old host.new result }
 {
     let mut outgoing = Outgoing {
@@ -74,6 +77,7 @@ fn open<H: Host>(outgoing: &mut Outgoing, commits: u64, host: &mut H) -> Result<
     requires told { outgoing.old.gathered.told ≡ [] }
     requires made { outgoing.old.gathered.made ≡ [] }
     ensures opens { Opens H.Source H.Host.own commits outgoing.old host.old outgoing.new host.new result }
+    ensures unasked { AsksNothing H.Source H.Host.own host.old host.new }
     ensures unread { H.unread host.new ≡ H.unread host.old }
     ensures short { IsErrOf result Stop.TooLong → ⊥ }
 {
@@ -86,6 +90,7 @@ fn open<H: Host>(outgoing: &mut Outgoing, commits: u64, host: &mut H) -> Result<
 fn last<H: Host>(outgoing: &mut Outgoing, commits: u64, host: &mut H) -> Result<(), Stop>
     requires serving { IsServing H.Source H.Host.own outgoing.old host.old }
     ensures closes { Closes H.Source H.Host.own commits outgoing.old host.old host.new result }
+    ensures unasked { AsksNothing H.Source H.Host.own host.old host.new }
     ensures unread { H.unread host.new ≡ H.unread host.old }
     ensures short { IsErrOf result Stop.TooLong → ⊥ }
 {

@@ -3,7 +3,9 @@ use Rattle.std.proofs.Common.{◌≡◌, ℕ, List, [], ◌++◌, length, take, 
 use Rattle.hs_host.specs.Moments.{Since}
 use Rattle.hs_host.proofs.Used.{output_on}
 use Rattle.hs_run.specs.Holding.{IsHandedOver}
+use Rattle.hs_run.specs.Prompt.{AsksNothing}
 use Rattle.hs_run.proofs.Holding.{told_join, handed_printed}
+use Rattle.hs_run.proofs.Prompt.{unasked_on, unasked_printed}
 use Rattle.hs_run.proofs.flush.write_all.Goals as goal
 use Rattle.hs_run.proofs.flush.write_all.Goals.{After-tell}
 
@@ -24,6 +26,19 @@ returns-in-Err-NoMemory-clause-moments g c = on g (goal.at.returns-in-Err-NoMemo
 pub returns-then-count-eq0-clause-moments : goal.returns-then-count-eq0-clause-moments
 returns-then-count-eq0-clause-moments g c = on g (goal.at.returns-then-count-eq0-clause-moments g c).After-tell
 
+-- it asks for nothing
+silent : (g : _) (c : After-tell g) → AsksNothing g.H.Source g.H.Host c.args.host.now c.tell.new.host
+silent g c told = unasked_on (c.loop-rest.invariant.silent told) (unasked_printed (c.tell.ensures.moments told.tells))
+
+pub returns-in-Err-Fault-clause-unasked : goal.returns-in-Err-Fault-clause-unasked
+returns-in-Err-Fault-clause-unasked g c = silent g (goal.at.returns-in-Err-Fault-clause-unasked g c).After-tell
+
+pub returns-in-Err-NoMemory-clause-unasked : goal.returns-in-Err-NoMemory-clause-unasked
+returns-in-Err-NoMemory-clause-unasked g c = silent g (goal.at.returns-in-Err-NoMemory-clause-unasked g c).After-tell
+
+pub returns-then-count-eq0-clause-unasked : goal.returns-then-count-eq0-clause-unasked
+returns-then-count-eq0-clause-unasked g c = silent g (goal.at.returns-then-count-eq0-clause-unasked g c).After-tell
+
 pub loop-rest-preserved : goal.loop-rest-preserved
 loop-rest-preserved g c =
     let i = c.loop-rest.invariant in
@@ -33,5 +48,6 @@ loop-rest-preserved g c =
       grown = λ told. omega (arith, i.grown told, ap length (added told), length-append (g.H.Host.written c.loop-rest.host) (take c.in-Ok.count c.loop-rest.rest.now));
       moments = on g (goal.at.loop-rest-preserved g c).After-tell;
       calm = c.in-Ok.ensures.cause.some (λ zero. absurd (omega (arith, c.if-count-eq0.false, zero))) ∙ i.calm;
+      silent = silent g (goal.at.loop-rest-preserved g c).After-tell;
       uses = output_on i.uses c.tell.ensures.uses;
     }

@@ -1,5 +1,6 @@
 use Rattle.std.proofs.Common.{◌≡◌, List, ℕ, ◌++◌, OnOk, refl, ap, subst, ◌∙◌}
 use Rattle.hs_host.specs.Moments.{Since}
+use Rattle.hs_host.proofs.Passing.{since_none}
 use Rattle.hs_run.specs.Holding.{IsHandedOver, WritesPrefix}
 use Rattle.hs_run.specs.Lines.{opened_line}
 use Rattle.hs_run.proofs.taking.open.Goals as goal
@@ -8,6 +9,9 @@ use Rattle.hs_run.proofs.Ends.{opens_by, opens_failing}
 
 pub returns-in_err-push_opened-clause-opens : goal.returns-in_err-push_opened-clause-opens
 returns-in_err-push_opened-clause-opens g c = opens_failing g.H.Source g.H.Host c.args.commits c.args.outgoing.now _ c.args.host.now c.from_residual.result c.from_residual.ensures.1
+
+pub returns-in_err-push_opened-clause-unasked : goal.returns-in_err-push_opened-clause-unasked
+returns-in_err-push_opened-clause-unasked g c = λ told. since_none _ (g.H.Host.history c.args.host.now)
 
 -- what is gathered is the first line
 line : (g : _) (c : In_ok-push_opened g) → c.push_opened.new.self ≡ opened_line c.args.commits

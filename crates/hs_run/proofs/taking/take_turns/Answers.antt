@@ -5,7 +5,9 @@ use Rattle.hs_run.specs.declared.stop.Stop.{Stop}
 use Rattle.hs_run.specs.Future.{Future}
 use Rattle.hs_run.specs.Outgoing.{Opens}
 use Rattle.hs_run.specs.Running.{Follows, IsBeginning, IsOver, IsSane, MovesOn}
+use Rattle.hs_run.specs.Prompt.{due_for}
 use Rattle.hs_run.proofs.Moving.{moves_on}
+use Rattle.hs_run.proofs.Prompt.{unasked_prompt}
 use Rattle.hs_run.proofs.Stops.{any_ok, long_of}
 use Rattle.hs_run.proofs.Used.{turns_failing}
 use Rattle.hs_run.proofs.Whole.{IsStarted, Runs, done_closing, log_closing, read_all, runs_closing, runs_moving, runs_opening, sane, too_long}
@@ -20,7 +22,10 @@ pub returns-in_err-open-clause-front : goal.returns-in_err-open-clause-front
 returns-in_err-open-clause-front g c = λ f begins.
     let at = (goal.at.returns-in_err-open-clause-front g c).After-commits in
     let opens = subst (λ (n : ℕ). Opens {R = Unit {0}} g.H.Source g.H.Host n (nothing_yet g at) c.args.host.now c.open.new.outgoing c.open.new.host (Err c.in_err-open.field-0.0)) (c.commits.ensures f begins.at) c.in_err-open.ensures.opens in
-    (runs_opening g.T.Turns g.H.Source g.H.Host f c.args.turns c.args.log c.args.host.now begins (nothing_yet g at) c.open.new.outgoing c.open.new.host _ opens).front
+    (runs_opening g.T.Turns g.H.Source g.H.Host f c.args.turns c.args.log c.args.host.now begins (nothing_yet g at) c.open.new.outgoing c.open.new.host _ opens c.in_err-open.ensures.unasked).front
+
+pub returns-in_err-open-clause-prompt : goal.returns-in_err-open-clause-prompt
+returns-in_err-open-clause-prompt g c = λ f begins told. unasked_prompt (due_for f) (g.H.Host.history c.args.host.now).now (c.in_err-open.ensures.unasked told)
 
 -- the run behind the first line
 abbrev begun : (g : _) (c : After-new-2 g) → Running g.row.T.Denot
@@ -31,6 +36,8 @@ started g c f ahead =
     let at = (goal.at.After-new-2 g c).After-commits in
     record {
       opens = subst (λ (n : ℕ). Opens {R = Unit {0}} g.H.Source g.H.Host n (nothing_yet g at) c.args.host.now c.open.new.outgoing c.open.new.host (Ok tt)) (c.commits.ensures f ahead) c.in_ok-open.ensures.opens;
+      out = g.met.H.Host.output_now c.args.host.now;
+      silent = c.in_ok-open.ensures.unasked;
       unread = c.in_ok-open.ensures.unread;
       turns_is = refl;
       kept = c.new-2.ensures.kept;
@@ -58,6 +65,9 @@ returns-in_err-take_all-clause-front g c = λ f begins. (stopped g (goal.at.retu
 
 pub returns-in_err-take_all-clause-moments : goal.returns-in_err-take_all-clause-moments
 returns-in_err-take_all-clause-moments g c = λ f begins. (stopped g (goal.at.returns-in_err-take_all-clause-moments g c).After-new-2 f begins c.take_all.new.self c.take_all.new.host c.take_all.result c.take_all.ensures.moves).moments
+
+pub returns-in_err-take_all-clause-prompt : goal.returns-in_err-take_all-clause-prompt
+returns-in_err-take_all-clause-prompt g c = λ f begins. (stopped g (goal.at.returns-in_err-take_all-clause-prompt g c).After-new-2 f begins c.take_all.new.self c.take_all.new.host c.take_all.result c.take_all.ensures.moves).prompt
 
 pub returns-in_err-take_all-clause-ends : goal.returns-in_err-take_all-clause-ends
 returns-in_err-take_all-clause-ends g c =
@@ -90,6 +100,12 @@ returns-in_err-close_all-clause-moments g c = λ f begins.
     (stopped g at f begins c.close_all.new.self c.close_all.new.host c.close_all.result
     (moves_on g.T.Turns g.H.Source g.H.Host (begun g at) c.take_all.new.self c.close_all.new.self c.open.new.host c.take_all.new.host c.close_all.new.host tt c.close_all.result c.in_ok-take_all.ensures.moves c.close_all.ensures.moves)).moments
 
+pub returns-in_err-close_all-clause-prompt : goal.returns-in_err-close_all-clause-prompt
+returns-in_err-close_all-clause-prompt g c = λ f begins.
+    let at = (goal.at.returns-in_err-close_all-clause-prompt g c).After-new-2 in
+    (stopped g at f begins c.close_all.new.self c.close_all.new.host c.close_all.result
+    (moves_on g.T.Turns g.H.Source g.H.Host (begun g at) c.take_all.new.self c.close_all.new.self c.open.new.host c.take_all.new.host c.close_all.new.host tt c.close_all.result c.in_ok-take_all.ensures.moves c.close_all.ensures.moves)).prompt
+
 pub returns-in_err-close_all-clause-ends : goal.returns-in_err-close_all-clause-ends
 returns-in_err-close_all-clause-ends g c =
     let at = (goal.at.returns-in_err-close_all-clause-ends g c).After-new-2 in
@@ -115,13 +131,16 @@ whole g c f begins =
     let at = (goal.at.After-last g c).After-new-2 in
     let ok = (goal.at.After-last g c).In_ok-close_all in
     runs_closing g.T.Turns g.H.Source g.H.Host f c.args.turns c.args.log c.args.host.now begins _ (begun g at) c.open.new.host (started g at f begins.at) c.close_all.new.self c.close_all.new.host (closing g ok f begins) (over g ok) c.in_ok-close_all.ensures.none
-    c.commits-commits.result c.commits-commits.ensures c.last.new.host c.last.result c.last.ensures.closes
+    c.commits-commits.result c.commits-commits.ensures c.last.new.host c.last.result c.last.ensures.closes c.last.ensures.unasked
 
 pub returns-clause-front : goal.returns-clause-front
 returns-clause-front g c = λ f begins. (whole g (goal.at.returns-clause-front g c).After-last f begins).front
 
 pub returns-clause-moments : goal.returns-clause-moments
 returns-clause-moments g c = λ f begins. (whole g (goal.at.returns-clause-moments g c).After-last f begins).moments
+
+pub returns-clause-prompt : goal.returns-clause-prompt
+returns-clause-prompt g c = λ f begins. (whole g (goal.at.returns-clause-prompt g c).After-last f begins).prompt
 
 pub returns-clause-ends : goal.returns-clause-ends
 returns-clause-ends g c = (whole g (goal.at.returns-clause-ends g c).After-last c.requires.begins.0 c.requires.begins.1).ends

@@ -2,7 +2,9 @@ use Rattle.std.proofs.Common.{◌≡◌, List, ℕ, ◌++◌, take, OnOk, refl, 
 use Rattle.hs_host.specs.Moments.{Since}
 use Rattle.hs_run.specs.Holding.{IsHandedOver, WritesPrefix}
 use Rattle.hs_run.specs.declared.stop.Stop.TheVariants.{TooLong}
+use Rattle.hs_host.proofs.Used.{told_on}
 use Rattle.hs_run.proofs.Handing.{hands_standing, hands_all}
+use Rattle.hs_run.proofs.Prompt.{unasked_file, unasked_on}
 use Rattle.hs_run.proofs.outgoing.Outgoing.hand_over.Goals as goal
 use Rattle.hs_run.proofs.outgoing.Outgoing.hand_over.Goals.{In-Err}
 
@@ -20,6 +22,12 @@ returns-in-Err-clause-hands g c =
     (λ tells. subst (λ (l : List ℕ). WritesPrefix (g.H.Host.written old) (g.H.Host.written new) l) same (c.hand_over_standing.ensures.front tells))
     (λ tells. subst (λ (l : List ℕ). Since (IsHandedOver (g.H.Host.history old).now l) (g.H.Host.history old) (g.H.Host.history new)) same (c.hand_over_standing.ensures.moments tells))
     c.hand_over_standing.ensures.uses (c.hand_over_standing.ensures.stops c.args.host.now c.in-Err.ensures.stops)
+
+pub returns-in-Err-clause-unasked : goal.returns-in-Err-clause-unasked
+returns-in-Err-clause-unasked g c = λ told. unasked_on (unasked_file (c.in-Err.ensures.moves.moments told)) (c.hand_over_standing.ensures.unasked (told_on c.in-Err.ensures.moves.uses told))
+
+pub returns-clause-unasked : goal.returns-clause-unasked
+returns-clause-unasked g c = λ told. unasked_on (unasked_file (c.in_default.ensures.moves.moments told)) (c.flush.ensures.unasked (told_on c.in_default.ensures.moves.uses told))
 
 pub returns-in-Err-clause-short : goal.returns-in-Err-clause-short
 returns-in-Err-clause-short g c = λ is. let same : c.hand_over_standing.result ≡ TooLong = cc in c.hand_over_standing.ensures.short c.args.host.now c.in-Err.ensures.stops same

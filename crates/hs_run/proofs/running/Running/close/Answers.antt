@@ -2,7 +2,7 @@ use Rattle.std.proofs.Common.{◌≡◌, Bool, true, false, Ok, refl, sym, ap, s
 use Rattle.hs_run.specs.declared.gathered.Gathered.{Gathered}
 use Rattle.hs_run.specs.declared.running.Running.{Running}
 use Rattle.hs_run.specs.Running.{MovesOn}
-use Rattle.hs_run.proofs.Moving.{moves_failing, moves_handing, moves_none, moves_on, moves_over, moves_wanting}
+use Rattle.hs_run.proofs.Moving.{moves_failing, moves_handing, moves_none, moves_on, moves_over, moves_wanting, prompts_silent}
 use Rattle.hs_run.proofs.Steps.{moves_closed}
 use Rattle.hs_run.proofs.running.Running.close.Goals as goal
 use Rattle.hs_run.proofs.running.Running.close.Goals.{After-mark, After-hand_over_when_large}
@@ -32,7 +32,7 @@ returns-in_err-hand_over_when_large-in-Ok-true-clause-moves g c =
     let stop = c.in_err-hand_over_when_large-in-Ok-true.field-0.0 in
     moves_on g.T.Turns g.H.Source g.H.Host c.args.self.now (with_piece g at) behind c.args.host.now c.args.host.now c.hand_over_when_large.new.host true c.from_residual.result first
     (moves_failing g.T.Turns g.H.Source g.H.Host (with_piece g at) behind c.args.host.now c.hand_over_when_large.new.host stop c.from_residual.result c.from_residual.ensures.1
-    (moves_handing g.T.Turns g.H.Source g.H.Host (with_piece g at) behind c.args.host.now c.hand_over_when_large.new.host _ refl refl c.hand_over_when_large.ensures.unread c.in_err-hand_over_when_large-in-Ok-true.ensures.hands))
+    (moves_handing g.T.Turns g.H.Source g.H.Host (with_piece g at) behind c.args.host.now c.hand_over_when_large.new.host _ refl refl c.hand_over_when_large.ensures.unread c.in_err-hand_over_when_large-in-Ok-true.ensures.hands c.hand_over_when_large.ensures.unasked))
 
 pub returns-in_ok-hand_over_when_large-in-Ok-true-clause-moves : goal.returns-in_ok-hand_over_when_large-in-Ok-true-clause-moves
 returns-in_ok-hand_over_when_large-in-Ok-true-clause-moves g c =
@@ -41,7 +41,7 @@ returns-in_ok-hand_over_when_large-in-Ok-true-clause-moves g c =
     let first = gathered g at in
     moves_on g.T.Turns g.H.Source g.H.Host c.args.self.now (with_piece g at) behind c.args.host.now c.args.host.now c.hand_over_when_large.new.host true (Ok true) first
     (moves_over g.T.Turns g.H.Source g.H.Host (with_piece g at) behind c.args.host.now c.hand_over_when_large.new.host tt true
-    (moves_handing g.T.Turns g.H.Source g.H.Host (with_piece g at) behind c.args.host.now c.hand_over_when_large.new.host _ refl refl c.hand_over_when_large.ensures.unread c.in_ok-hand_over_when_large-in-Ok-true.ensures.hands))
+    (moves_handing g.T.Turns g.H.Source g.H.Host (with_piece g at) behind c.args.host.now c.hand_over_when_large.new.host _ refl refl c.hand_over_when_large.ensures.unread c.in_ok-hand_over_when_large-in-Ok-true.ensures.hands c.hand_over_when_large.ensures.unasked))
 
 pub returns-in-Ok-false-clause-moves : goal.returns-in-Ok-false-clause-moves
 returns-in-Ok-false-clause-moves g c =
@@ -54,3 +54,4 @@ pub returns-in-Err-clause-moves : goal.returns-in-Err-clause-moves
 returns-in-Err-clause-moves g c =
     moves_wanting g.T.Turns g.H.Source g.H.Host c.args.self.now _ _ c.wanting.new.self c.args.host.now c.wanting.new.host c.wanting.result
     (ap (λ (x : Gathered). record { gathered = x; standing = c.args.self.now.outgoing.standing; log = c.args.self.now.outgoing.log }) c.in-Err.ensures.err) c.wanting.ensures.hands
+    (prompts_silent g.T.Turns g.H.Source g.H.Host c.args.self.now c.args.host.now c.wanting.new.host c.wanting.ensures.unasked)
