@@ -8,6 +8,7 @@ use Rattle.hs_program.specs.Damaged as damaged
 use Rattle.hs_program.specs.Meaning.{Opened}
 use Rattle.hs_program.specs.Opening as opening
 use Rattle.hs_run.specs.Pieces.{told_by}
+use Rattle.hs_run.specs.Prompt.{due_for}
 use Rattle.hs_run.specs.Running.{pieces}
 use Rattle.hs_turns.specs.Histories.{History}
 use Rattle.hs_turns.specs.Language.{Language}
@@ -47,6 +48,11 @@ module _ (log : List ℕ) (opened : Opened) where
   -- what statements mean
   abbrev pub language : Language
   language = language_over opened (opening.size_at log)
+
+  -- What is due when these bytes of an input were taken: the first line, and the lines of all turns before the first one that needs an
+  -- item which isn't whole in them.
+  abbrev pub due : List ℕ → List ℕ
+  due = due_for (program.ahead sql_meaning log opened)
 
   module _ (input : List ℕ) where
     -- all that is written

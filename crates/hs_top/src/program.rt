@@ -8,15 +8,16 @@ ghost use Rattle.hs_host.specs.Moments.{Since};
 ghost use Rattle.hs_language.specs.Sql.{is_valid};
 ghost use Rattle.hs_log.specs.Log.{IsWholeLog, is_born};
 ghost use Rattle.hs_program.specs.Command.{database_of};
-ghost use Rattle.hs_program.specs.Crash.{IsQuiet, IsSafe, IsKept, Survives};
+ghost use Rattle.hs_program.specs.Crash.{IsQuiet, IsSafe, IsSafeOnce, IsKept, Survives};
 ghost use Rattle.hs_program.specs.Meaning.{Opened, nothing_logged};
 ghost use Rattle.hs_program.specs.Opening.{texts_at};
 ghost use Rattle.hs_program.specs.Run.{HasLog};
 ghost use Rattle.hs_program.specs.Stop.{TellsDamage, is_damaged};
 ghost use Rattle.hs_run.specs.Crash.{IsLater, OnlyLog};
 ghost use Rattle.hs_run.specs.Holding.{WritesPrefix};
+ghost use Rattle.hs_run.specs.Prompt.{IsPrompt};
 ghost use Rattle.hs_run.specs.Stop.{NoFaults};
-ghost use Rattle.hs_top.specs.Runs.{Gives, GivesOne, IsDamaged, IsDamagedOnly, Violates, ViolatesOnly, after_commits, all_turns, commit_texts, ended, history, language, transcript, transcript_within, turns_lines, turns_told};
+ghost use Rattle.hs_top.specs.Runs.{Gives, GivesOne, IsDamaged, IsDamagedOnly, Violates, ViolatesOnly, after_commits, all_turns, commit_texts, due, ended, history, language, transcript, transcript_within, turns_lines, turns_told};
 ghost use Rattle.hs_turns.specs.Histories.{state};
 ghost use Rattle.hs_turns.specs.Laws.{is_item};
 ghost use Rattle.hs_turns.specs.Lines.{printed, replies_among};
@@ -49,6 +50,9 @@ use std::alloc::Global;
 /// this one ended. Over a damaged log, and over one whose commits make what violates a constraint, nothing is written and no file is
 /// changed, whatever the status is.
 ///
+/// Before more of the input is asked for, all lines are written that the machine tells before its first turn that needs an item which
+/// isn't whole in what was taken of the input by then.
+///
 /// Where anything was written, and at `Done` and `InputTooLong`, the commits of the log make one database alone, and the log is neither
 /// damaged nor invalid. Where the status names a damage or a violated constraint, the log gives no database and has no
 /// other damage and no other first violated constraint. It is the run that knows so, of the texts that it read: it is no law of all logs.
@@ -58,7 +62,8 @@ use std::alloc::Global;
 /// the machine behind so many commits. It has all commits that were acknowledged by then, and none of the run's own until the first
 /// line is written. Only while a log that wasn't born is being made may a crash leave another. The moment at which the run ends is a
 /// safe one too, but where the disk failed or memory was wanted over a log that wasn't born: then it still isn't born, or it is whole.
-/// On the disk no other file is touched.
+/// On the disk no other file is touched. Where the log wasn't all on the disk at the call, as after a crash, all this is so from the
+/// first byte on that is written.
 pub fn run<H: Host>(alloc: Global, words: &Words, host: &mut H) -> Status
     requires { IsUnnamed (H.standing host.old) }
 
@@ -76,6 +81,7 @@ pub fn run<H: Host>(alloc: Global, words: &Words, host: &mut H) -> Status
     ensures done_within { H.tells → result ≡ Status.Done → length (H.unread host.old) ≤ 2 ^ 30 }
     ensures too_long { H.tells → result ≡ Status.InputTooLong → 2 ^ 30 < length (H.unread host.old) }
     ensures before_too_long { H.tells → IsHonest (H.standing host.old) → (opened : Opened) → Gives (H.files host.old).log opened → result ≡ Status.InputTooLong → H.written host.new ≡ H.written host.old ++ transcript_within (H.files host.old).log opened (H.unread host.old) (2 ^ 30) }
+    ensures prompt { H.tells → IsHonest (H.standing host.old) → (opened : Opened) → Gives (H.files host.old).log opened → Since (IsPrompt (due (H.files host.old).log opened) (H.history host.old).now) (H.history host.old) (H.history host.new) }
 
     // The turns of the machine, and what the models of transactions promise after any number of them.
     ensures turns { (opened : Opened) → turns_told (H.files host.old).log opened (H.unread host.old) ≡ printed (turns_lines (H.files host.old).log opened (H.unread host.old)) }
@@ -96,6 +102,7 @@ pub fn run<H: Host>(alloc: Global, words: &Words, host: &mut H) -> Status
     // What a crash leaves, at each moment of the run: the state of the machine behind some of its commits.
     ensures states { (opened : Opened) (k : ℕ) → (after_commits (H.files host.old).log opened (H.unread host.old) k).database ≡ state opened.database (history (H.files host.old).log opened (H.unread host.old) (all_turns (H.files host.old).log opened (H.unread host.old))).commits k }
     ensures crash { H.tells → IsHonest (H.standing host.old) → IsQuiet (H.files host.old) (H.history host.old).now → (opened : Opened) → Gives (H.files host.old).log opened → Since (IsKept sql_meaning (H.files host.old) opened (H.unread host.old) (H.written host.old) (H.history host.old).now) (H.history host.old) (H.history host.new) }
+    ensures crash_later { H.tells → IsHonest (H.standing host.old) → (opened : Opened) → Gives (H.files host.old).log opened → Since (IsSafeOnce sql_meaning (H.files host.old).log opened (H.unread host.old) (H.written host.old)) (H.history host.old) (H.history host.new) }
     ensures safe { H.tells → IsHonest (H.standing host.old) → IsQuiet (H.files host.old) (H.history host.old).now → (opened : Opened) → Gives (H.files host.old).log opened → HasLog (H.files host.old).log result → IsSafe sql_meaning (H.files host.old).log opened (H.unread host.old) (H.written host.old) (H.history host.new).now }
     ensures left { H.tells → IsHonest (H.standing host.old) → IsQuiet (H.files host.old) (H.history host.old).now → (opened : Opened) → Gives (H.files host.old).log opened → HasLog (H.files host.old).log result → Survives sql_meaning (H.files host.old).log opened (H.unread host.old) (H.written host.old) (H.written host.new) (H.files host.new).log }
     ensures begun { H.tells → IsHonest (H.standing host.old) → is_born (H.files host.old).log ≡ false → (is_born (H.files host.new).log ≡ false) ⊎ Survives sql_meaning (H.files host.old).log (nothing_logged sql_meaning) (H.unread host.old) (H.written host.old) (H.written host.new) (H.files host.new).log }
