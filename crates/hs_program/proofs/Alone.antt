@@ -5,29 +5,35 @@ use Rattle.hs_host.specs.declared.source.Source as source
 use Rattle.hs_host.specs.declared.host.Host as host
 use Rattle.hs_host.specs.Disk.{Pending}
 use Rattle.hs_host.specs.Files.{of, with_}
-use Rattle.hs_host.specs.Moments.{Moment, History, Since, OneFile, IsStill, disk_of}
+use Rattle.hs_host.specs.Moments.{Call, on_file, asked, Moment, History, Since, OneFile, IsStill, disk_of}
 use Rattle.hs_host.specs.Files.{Five}
 use Rattle.hs_host.specs.Used.{ReadsFiles, Moves, ChangesFile}
 use Rattle.hs_host.proofs.Passing.{since_join, since_none, since_now, since_weaker}
 use Rattle.hs_host.proofs.Used.{uses_on, told_on, only_on, still_only, moves_weaker}
 use Rattle.hs_log.specs.Log.{IsOpening}
 use Rattle.hs_run.specs.Crash.{IsLater}
+use Rattle.hs_run.specs.Prompt.{IsUnasked}
 use Rattle.hs_program.specs.Crash.{IsPreparing}
+
+not_asked : (taken : List ℕ) → ¬ (on_file ≡ asked taken)
+not_asked taken same = absurd (cc)
 
 still_preparing : (before m : Moment) → IsStill before m → IsPreparing before m
 still_preparing before m is = record {
   disks = subst (λ (d : Five Pending). d ≡ with_ before.disks Log (of d Log)) (sym (ap (λ (x : Moment). x.disks) is)) refl;
   out = ap (λ (x : Moment). x.out) is;
+  unasked = subst (IsUnasked before) (sym is) (record { taken = refl; none = not_asked });
 }
 
 one_preparing : {Q : List ℕ → Type 0} (before m : Moment) → OneFile before Log Q m → IsPreparing before m
-one_preparing before m one = subst (IsPreparing before) (sym one.is) (record { disks = refl; out = refl })
+one_preparing before m one = subst (IsPreparing before) (sym one.is) (record { disks = refl; out = refl; unasked = record { taken = refl; none = not_asked } })
 
 -- one behind the other
 preparing_then : (a b m : Moment) → IsPreparing a b → IsPreparing b m → IsPreparing a m
 preparing_then a b m first then = record {
   disks = then.disks ∙ ap (λ (d : Five Pending). with_ d Log (disk_of m Log)) first.disks;
   out = then.out ∙ first.out;
+  unasked = record { taken = then.unasked.taken ∙ first.unasked.taken; none = then.unasked.none };
 }
 
 preparing_on : {a b c : History} → Since (IsPreparing a.now) a b → Since (IsPreparing b.now) b c → Since (IsPreparing a.now) a c
@@ -35,6 +41,9 @@ preparing_on {a} {b} {c} ab bc = since_join ab (since_weaker bc (λ m then. elim
   | inl is ↦ subst (λ (x : Moment). IsPreparing x m) is then
   | inr first ↦ preparing_then a.now b.now m first then
 ]))
+
+pub preparing_unasked : {a b : History} → Since (IsPreparing a.now) a b → Since (IsUnasked a.now) a b
+preparing_unasked ab = since_weaker ab (λ m is. is.unasked)
 
 -- so the log alone is touched
 pub preparing_later : {a b : History} → Since (IsPreparing a.now) a b → Since (IsLater a.now) a b

@@ -6,6 +6,7 @@ use Rattle.hs_host.specs.Files.{Five, with_}
 use Rattle.hs_host.specs.Moments.{Moment, disk_of}
 use Rattle.hs_host.specs.declared.file_kind.FileKind.TheVariants.{Log}
 use Rattle.hs_run.specs.Crash.{AcknowledgesBehind, HasNoLine}
+use Rattle.hs_run.specs.Prompt.{IsUnasked}
 use Rattle.hs_program.specs.Ahead.{after_commits, ahead, texts_from}
 use Rattle.hs_program.specs.Meaning.{Meaning, Opened}
 use Rattle.hs_program.specs.Opening.{AreRedone, IsOpened, texts_at}
@@ -44,10 +45,12 @@ IsSafeOnce m old opened input before at = ¬ (at.out ≡ before) → IsSafe m ol
 abbrev pub GivesSame : Meaning → List ℕ → List ℕ → Type 0
 GivesSame m old log = ((opened : Opened) → IsOpened m old opened → IsOpened m log opened) × (texts_at log ≡ texts_at old)
 
--- While the log is opened nothing is written, and of what the disk has of the files only what it has of the log may be other.
+-- While the log is opened nothing is written and no input is asked for, and of what the disk has of the files only what it has of the
+-- log may be other.
 pub record IsPreparing (start at : Moment) : Type 0 where
   pub disks : at.disks ≡ with_ start.disks Log (disk_of at Log)
   pub out : at.out ≡ start.out
+  pub unasked : IsUnasked start at
 
 -- While the log is opened nothing is written, and a log that wasn't born is being made, or whatever a crash leaves gives
 -- what was found.

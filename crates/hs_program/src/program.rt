@@ -7,6 +7,7 @@ ghost use Rattle.hs_host.specs.Used.{Told};
 ghost use Rattle.hs_log.specs.Log.{IsWholeLog, is_born};
 ghost use Rattle.hs_run.specs.Crash.{IsLater, OnlyLog};
 ghost use Rattle.hs_run.specs.Holding.{WritesPrefix};
+ghost use Rattle.hs_run.specs.Prompt.{IsPrompt, due_for};
 ghost use Rattle.hs_run.specs.Stop.{NoFaults};
 ghost use Rattle.hs_program.specs.Ahead.{ahead, all_told, told_within, texts_from, ended_with};
 ghost use Rattle.hs_program.specs.Command.{database_of};
@@ -38,6 +39,9 @@ use std::alloc::Global;
 /// this one ended. Over a damaged log, and over one whose commits make what violates a constraint, nothing is written and no file is
 /// changed, whatever the status is.
 ///
+/// Before more of the input is asked for, all lines of the transcript are written up to the first turn that needs an item which isn't
+/// whole in what was taken of it by then.
+///
 /// Where anything was written, and at `Done` and `InputTooLong`, the commits of the log make one database alone, and the log is neither
 /// damaged nor invalid. Where the status names a damage or a violated constraint, the log gives no database and has no
 /// other damage and no other first violated constraint. It is the run that knows so, of the texts that it read: it is no law of all logs.
@@ -65,6 +69,7 @@ pub fn run_over<H: Host, E: Engine + Drop>(alloc: Global, words: &Words, host: &
     ensures done_within { H.tells → result ≡ Status.Done → length (H.unread host.old) ≤ 2 ^ 30 }
     ensures too_long { H.tells → result ≡ Status.InputTooLong → 2 ^ 30 < length (H.unread host.old) }
     ensures before_too_long { H.tells → IsHonest (H.standing host.old) → (opened : Opened) → IsOpened E.meaning (H.files host.old).log opened → result ≡ Status.InputTooLong → H.written host.new ≡ H.written host.old ++ told_within (2 ^ 30) (ahead E.meaning (H.files host.old).log opened) (H.unread host.old) }
+    ensures prompt { H.tells → IsHonest (H.standing host.old) → (opened : Opened) → IsOpened E.meaning (H.files host.old).log opened → Since (IsPrompt (due_for (ahead E.meaning (H.files host.old).log opened)) (H.history host.old).now) (H.history host.old) (H.history host.new) }
 
     // What is logged.
     ensures log { H.tells → IsHonest (H.standing host.old) → (opened : Opened) → IsOpened E.meaning (H.files host.old).log opened → result ≡ Status.Done → IsWholeLog 1 (texts_at (H.files host.old).log ++ texts_from (ahead E.meaning (H.files host.old).log opened) (H.unread host.old)) (H.files host.new).log }

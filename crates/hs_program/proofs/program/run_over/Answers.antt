@@ -35,6 +35,9 @@ returns-in_default-clause-reopens g c = λ tells honest. (idle g (goal.at.return
 pub returns-in_default-clause-others : goal.returns-in_default-clause-others
 returns-in_default-clause-others g c = λ tells honest. (idle g (goal.at.returns-in_default-clause-others g c).In_default (record { tells = tells; honest = honest })).others
 
+pub returns-in_default-clause-prompt : goal.returns-in_default-clause-prompt
+returns-in_default-clause-prompt g c = λ tells honest. (idle g (goal.at.returns-in_default-clause-prompt g c).In_default (record { tells = tells; honest = honest })).prompt
+
 pub returns-in_default-clause-crash : goal.returns-in_default-clause-crash
 returns-in_default-clause-crash g c = λ tells honest. (idle g (goal.at.returns-in_default-clause-crash g c).In_default (record { tells = tells; honest = honest })).crash
 
@@ -109,6 +112,9 @@ returns-clause-reopens g c = λ tells honest. (c.serve.ensures.runs (record { te
 
 pub returns-clause-others : goal.returns-clause-others
 returns-clause-others g c = λ tells honest. (c.serve.ensures.runs (record { tells = tells; honest = honest })).others
+
+pub returns-clause-prompt : goal.returns-clause-prompt
+returns-clause-prompt g c = λ tells honest. (c.serve.ensures.runs (record { tells = tells; honest = honest })).prompt
 
 pub returns-clause-crash : goal.returns-clause-crash
 returns-clause-crash g c = λ tells honest. (c.serve.ensures.runs (record { tells = tells; honest = honest })).crash
