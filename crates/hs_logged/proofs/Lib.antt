@@ -5,3 +5,4 @@ pub mod Writing
 pub mod Replaying
 pub mod Reading
 pub mod Kept
+pub mod KnownTexts

@@ -3,6 +3,7 @@
 #![tactic(auto)]
 
 mod fault;
+mod known;
 mod lawful;
 pub mod laws;
 mod logbook;

@@ -47,7 +47,8 @@ impl Logbook {
     /// Puts the text of a commit behind those that are made, where the log has room for it, and answers whether it has: the
     /// commit has a text, beside this catalogue, which is as it was before it, and with its 9 bytes more the log isn't longer
     /// than it may be. Else nothing is changed. The conditions of CHECKs have texts, and the values behind DEFAULT are lawful;
-    /// of rows nothing is asked. A text is read again before it is made, so that a start reads it as this commit.
+    /// of rows nothing is asked. A text is read again before it is made, or known to be read so, so that a start reads it as this
+    /// commit.
     ///
     /// After an `Err`, which is want of memory, nothing is changed.
     pub fn enter<C: Conditions>(

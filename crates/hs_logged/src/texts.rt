@@ -7,9 +7,11 @@ ghost use Rattle.hs_logged.specs.Entered.{Decides, IsTextIn};
 ghost use Rattle.hs_logged.specs.Writable.{IsPlainWording, IsWritable};
 ghost use Rattle.hs_sameness.specs.Changes.{IsPlainChange};
 
+use crate::known::known_text;
 use crate::lawful::have_lawful_values;
 use hs_base::{NoMemory, SessionNo};
 use hs_committext::{Conditions, TextFault, commit_text, read_commit};
+use hs_knowntext::is_known;
 use hs_sameness::same_changes;
 use hs_schema::Catalog;
 use hs_sessions::Commit;
@@ -61,7 +63,8 @@ fn written<C: Conditions>(
 }
 
 /// The text of a commit, beside this catalogue, which is as it was before it, and behind a text of the session before. None
-/// exactly where it has none: what is written of it isn't read as it again. An `Err` is want of memory.
+/// exactly where it has none: what is written of it isn't read as it again. That is tried where it isn't known of its changes. An
+/// `Err` is want of memory.
 pub(crate) fn text_of<C: Conditions>(
     commit: &Commit,
     before: Option<SessionNo>,
@@ -72,6 +75,10 @@ pub(crate) fn text_of<C: Conditions>(
     requires writable { All (IsWritable (C.wording conditions.now) catalog.now) commit.now.changes }
     ensures { IfOk result (IsTextIn (C.wording conditions.now) catalog.now before commit.now.session commit.now.changes) }
 {
+    if is_known(commit, catalog) {
+        let text = known_text(commit, before, catalog, conditions)?;
+        return Ok(Some(text));
+    }
     if !have_lawful_values(commit.changes.as_slice()) {
         return Ok(None);
     }
