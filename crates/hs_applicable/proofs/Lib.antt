@@ -3,3 +3,4 @@ pub mod Indexes
 pub mod Keeping
 pub mod RowsSet
 pub mod Tested
+pub mod Differing

@@ -10,12 +10,14 @@ use Rattle.hs_language.specs.Sound.{are_distinct, has_fitting_default}
 use Rattle.hs_plan.specs.declared.definition.Constraint.{Constraint}
 use Rattle.hs_plan.specs.declared.definition.Definition.{Definition}
 use Rattle.hs_plan.specs.declared.definition.Definition.TheVariants as d
-use Rattle.hs_language.specs.Proper.{columns_added, constraints_added, drops_index, rule_refers, IsProper}
+use Rattle.hs_language.specs.Added.{columns_added, constraints_added}
+use Rattle.hs_language.specs.Limits.{keeps_limits}
+use Rattle.hs_language.specs.Proper.{adds_new_columns, are_over, are_paired, drops_constraint, drops_index, is_in_memory, rule_refers, IsProper}
 use Rattle.hs_language.proofs.Tables.{itself}
 use Rattle.hs_language.proofs.Whole.{all_from, all_test, none_test}
 use Rattle.hs_schema.specs.Catalogue.{AreNew, IsBound, Things, number_of, owner_of}
 use Rattle.hs_schema.proofs.Things.{same_number}
-use Rattle.hs_applicable.specs.Bound.{are_new, has_table, is_bound, is_free, is_proper, is_same}
+use Rattle.hs_applicable.specs.Bound.{are_new, has_fine_columns, has_fine_constraints, has_table, is_bound, is_free, is_proper, is_same}
 
 -- ---- options
 
@@ -101,14 +103,45 @@ module _ (things : Things) where
   abbrev referring : Definition → Bool
   referring definition = list_all (λ (c : Constraint). rule_refers things definition c.rule) (constraints_added definition)
 
+  -- what is asked beside storage and limits
+  abbrev drops : Definition → Bool
+  drops definition = drops_index things definition && drops_constraint things definition
+
+  abbrev fine : Definition → Bool
+  fine definition = has_fine_columns things definition && (has_fine_constraints things definition && drops definition)
+
   pub proper_from : (definition : Definition) → is_proper things definition ≡ true → IsProper things definition
   proper_from definition h =
-      let a = and_parts (is_bound things definition) (fitting definition && (referring definition && drops_index things definition)) h in
-      let b = and_parts (fitting definition) (referring definition && drops_index things definition) a.1 in
-      let c = and_parts (referring definition) (drops_index things definition) b.1 in
-      record { bound = bound_from definition a.0; defaults = b.0; references = c.0; index = c.1 }
+      let a = and_parts (is_in_memory definition) (keeps_limits things definition && (is_bound things definition && fine definition)) h in
+      let b = and_parts (keeps_limits things definition) (is_bound things definition && fine definition) a.1 in
+      let c = and_parts (is_bound things definition) (fine definition) b.1 in
+      let e = and_parts (has_fine_columns things definition) (has_fine_constraints things definition && drops definition) c.1 in
+      let f = and_parts (has_fine_constraints things definition) (drops definition) e.1 in
+      let columns = and_parts (adds_new_columns things definition) (fitting definition) e.0 in
+      let constraints = and_parts (are_over things definition) (referring definition && are_paired things definition) f.0 in
+      let keys = and_parts (referring definition) (are_paired things definition) constraints.1 in
+      let dropped = and_parts (drops_index things definition) (drops_constraint things definition) f.1 in
+      record {
+        bound = bound_from definition c.0;
+        storage = a.0;
+        limits = b.0;
+        columns = columns.0;
+        defaults = columns.1;
+        places = constraints.0;
+        references = keys.0;
+        kinds = keys.1;
+        index = dropped.0;
+        constraint = dropped.1;
+      }
 
   pub proper_test : (definition : Definition) → IsProper things definition → is_proper things definition ≡ true
   proper_test definition p =
-      and_from (is_bound things definition) (fitting definition && (referring definition && drops_index things definition)) (bound_test definition p.bound)
-      (and_from (fitting definition) (referring definition && drops_index things definition) p.defaults (and_from (referring definition) (drops_index things definition) p.references p.index))
+      and_from (is_in_memory definition) (keeps_limits things definition && (is_bound things definition && fine definition)) p.storage
+      (and_from (keeps_limits things definition) (is_bound things definition && fine definition) p.limits
+      (and_from (is_bound things definition) (fine definition) (bound_test definition p.bound)
+      (and_from (has_fine_columns things definition) (has_fine_constraints things definition && drops definition)
+      (and_from (adds_new_columns things definition) (fitting definition) p.columns p.defaults)
+      (and_from (has_fine_constraints things definition) (drops definition)
+      (and_from (are_over things definition) (referring definition && are_paired things definition) p.places
+      (and_from (referring definition) (are_paired things definition) p.references p.kinds))
+      (and_from (drops_index things definition) (drops_constraint things definition) p.index p.constraint)))))

@@ -7,7 +7,9 @@ use Rattle.hs_language.specs.Sound.{are_distinct, has_fitting_default}
 use Rattle.hs_plan.specs.declared.definition.Constraint.{Constraint}
 use Rattle.hs_plan.specs.declared.definition.Definition.{Definition}
 use Rattle.hs_plan.specs.declared.definition.Definition.TheVariants as d
-use Rattle.hs_language.specs.Proper.{columns_added, constraints_added, drops_index, rule_refers}
+use Rattle.hs_language.specs.Added.{columns_added, constraints_added}
+use Rattle.hs_language.specs.Limits.{keeps_limits}
+use Rattle.hs_language.specs.Proper.{adds_new_columns, are_over, are_paired, drops_constraint, drops_index, is_in_memory, rule_refers}
 use Rattle.hs_schema.specs.Catalogue.{Text, Things, number_of, owner_of}
 
 abbrev pub is_free : Things → Text → Bool
@@ -38,7 +40,13 @@ is_bound things (d.SetControl control) = true
 is_bound things (d.SetDefaultLevel serializable) = true
 
 -- what `IsProper` of hs_language says
+abbrev pub has_fine_columns : Things → Definition → Bool
+has_fine_columns things definition = adds_new_columns things definition && list_all has_fitting_default (columns_added definition)
+
+abbrev pub has_fine_constraints : Things → Definition → Bool
+has_fine_constraints things definition = are_over things definition && (list_all (λ c. rule_refers things definition c.rule) (constraints_added definition) && are_paired things definition)
+
 abbrev pub is_proper : Things → Definition → Bool
 is_proper things definition =
-    is_bound things definition && (list_all has_fitting_default (columns_added definition)
-    && (list_all (λ c. rule_refers things definition c.rule) (constraints_added definition) && drops_index things definition))
+    is_in_memory definition && (keeps_limits things definition && (is_bound things definition && (has_fine_columns things definition
+    && (has_fine_constraints things definition && (drops_index things definition && drops_constraint things definition)))))

@@ -1,3 +1,4 @@
 pub mod Applicable
 pub mod Bound
 pub mod SoundDatabase
+pub mod Columns

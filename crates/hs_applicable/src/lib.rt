@@ -3,10 +3,13 @@
 #![tactic(auto)]
 
 mod adding;
+mod columns;
 mod dropping;
 mod keys;
 pub mod laws;
+mod limits;
 mod making;
+mod pairs;
 mod proper;
 mod rows;
 

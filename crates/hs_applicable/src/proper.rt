@@ -2,16 +2,49 @@
 ghost use Rattle.std.specs.Prelude.{◌≡◌, map};
 ghost use Rattle.std.specs.List.{list_all};
 ghost use Rattle.hs_applicable.specs.Bound as bound;
+ghost use Rattle.hs_language.specs.Added as added;
 ghost use Rattle.hs_language.specs.Sound as sound;
 ghost use Rattle.hs_language.specs.Proper as spec;
 ghost use Rattle.hs_schema.specs.Catalogue.{constraints_in};
 ghost use Rattle.hs_sentences.specs.Violations.{constraints_of};
 
-use crate::adding::{adds_to, columns_added, constraints_added};
+use crate::adding::{adds_to, columns_added, constraints_added, constraints_named};
+use crate::columns::{adds_new_columns, are_over};
 use crate::keys::has_key_over;
+use crate::limits::keeps_limits;
+use crate::pairs::are_paired;
+use hs_ast::Storage;
 use hs_plan::{Column, Constraint, Definition, ForeignKey, Rule};
 use hs_schema::{Catalog, Part, Thing};
 use hs_values::{Name, fits};
+
+// ---- tables
+
+fn is_memory(storage: &Storage) -> bool
+    ensures { result ≡ spec.is_memory storage.now }
+{
+    match storage {
+        Storage::Memory => true,
+        Storage::Cached => false,
+    }
+}
+
+// Whether a table that a definition makes is in memory.
+fn is_in_memory(definition: &Definition) -> bool
+    ensures { result ≡ spec.is_in_memory definition.now }
+{
+    match definition {
+        Definition::CreateTable { storage, .. } => is_memory(storage),
+        Definition::DropTable(_) => true,
+        Definition::AddColumn { .. } => true,
+        Definition::AddConstraint { .. } => true,
+        Definition::DropConstraint { .. } => true,
+        Definition::CreateIndex { .. } => true,
+        Definition::DropIndex(_) => true,
+        Definition::SetControl(_) => true,
+        Definition::SetDefaultLevel { .. } => true,
+    }
+}
 
 // ---- defaults
 
@@ -32,18 +65,9 @@ fn have_fitting_defaults(columns: &[Column]) -> bool
 
 // ---- foreign keys
 
-fn constraints_named<'a>(cat: &'a Catalog, name: &str) -> &'a [Constraint]
-    ensures { result.now ≡ spec.constraints_named cat.now name.now }
-{
-    match cat.table(name) {
-        Some(table) => table.constraints.as_slice(),
-        None => &[],
-    }
-}
-
 // Whether a table has a key over these columns, in any order, or the definition gives it one.
 fn has_parent_key(cat: &Catalog, definition: &Definition, parent: &str, columns: &[u32]) -> bool
-    ensures { result ≡ spec.has_key_over (spec.constraints_seen cat.now definition.now parent.now) columns.now }
+    ensures { result ≡ spec.has_key_over (added.constraints_seen cat.now definition.now parent.now) columns.now }
 {
     has_key_over(constraints_named(cat, parent), columns)
         || (adds_to(definition, parent) && has_key_over(constraints_added(definition), columns))
@@ -80,7 +104,7 @@ fn all_refer(cat: &Catalog, definition: &Definition, constraints: &[Constraint])
     constraints.iter().all(|constraint| rule_refers(cat, definition, &constraint.rule))
 }
 
-// ---- indexes
+// ---- what is dropped
 
 fn is_index(rule: &Rule) -> bool
     ensures { result ≡ spec.is_index rule.now }
@@ -137,6 +161,38 @@ fn drops_index(cat: &Catalog, definition: &Definition) -> bool
     }
 }
 
+fn is_constraint_named(name: &Name, constraint: &Constraint) -> bool
+    ensures { result ≡ spec.is_constraint_named name.now constraint.now }
+{
+    name.as_str() != constraint.name.as_str() || !is_index(&constraint.rule)
+}
+
+fn are_constraints_named(name: &Name, constraints: &[Constraint]) -> bool
+    ensures { result ≡ list_all (spec.is_constraint_named name.now) constraints.now }
+{
+    constraints
+        .iter()
+        .all(|constraint| is_constraint_named(name, constraint))
+}
+
+fn drops_constraint(cat: &Catalog, definition: &Definition) -> bool
+    ensures { result ≡ spec.drops_constraint cat.now definition.now }
+{
+    match definition {
+        Definition::DropConstraint { table, name } => {
+            are_constraints_named(name, constraints_named(cat, table.as_str()))
+        }
+        Definition::CreateTable { .. } => true,
+        Definition::DropTable(_) => true,
+        Definition::AddColumn { .. } => true,
+        Definition::AddConstraint { .. } => true,
+        Definition::CreateIndex { .. } => true,
+        Definition::DropIndex(_) => true,
+        Definition::SetControl(_) => true,
+        Definition::SetDefaultLevel { .. } => true,
+    }
+}
+
 // ---- the whole
 
 fn is_bound(cat: &Catalog, definition: &Definition) -> bool
@@ -145,13 +201,33 @@ fn is_bound(cat: &Catalog, definition: &Definition) -> bool
     cat.is_bound(definition)
 }
 
-/// Whether a definition is proper: it is bound; the defaults of the columns that it adds fit them; each foreign key that it adds
-/// references a key that its parent has, or gets by it; and an index that it drops is one. Takes no memory.
+// Whether the columns that a definition adds are such as a table may have.
+fn has_fine_columns(cat: &Catalog, definition: &Definition) -> bool
+    ensures { result ≡ bound.has_fine_columns cat.now definition.now }
+{
+    adds_new_columns(cat, definition) && have_fitting_defaults(columns_added(definition))
+}
+
+// Whether the constraints and indexes that a definition adds are such as a table may have.
+fn has_fine_constraints(cat: &Catalog, definition: &Definition) -> bool
+    ensures { result ≡ bound.has_fine_constraints cat.now definition.now }
+{
+    are_over(cat, definition)
+        && (all_refer(cat, definition, constraints_added(definition))
+            && are_paired(cat, definition))
+}
+
+/// Whether a definition is proper. It is bound. A table that it makes is in memory, and it keeps the limits on tables. The columns
+/// that it adds have new names, and their defaults fit them. Its keys and indexes are over columns of their table. Each foreign key
+/// that it adds references a key that its parent has, or gets by it, and the columns of both are of the same kinds. An index that it
+/// drops is one, and a constraint is none. Takes no memory.
 pub(crate) fn is_proper(cat: &Catalog, definition: &Definition) -> bool
     ensures { result ≡ bound.is_proper cat.now definition.now }
 {
-    is_bound(cat, definition)
-        && (have_fitting_defaults(columns_added(definition))
-            && (all_refer(cat, definition, constraints_added(definition))
-                && drops_index(cat, definition)))
+    is_in_memory(definition)
+        && (keeps_limits(cat, definition)
+            && (is_bound(cat, definition)
+                && (has_fine_columns(cat, definition)
+                    && (has_fine_constraints(cat, definition)
+                        && (drops_index(cat, definition) && drops_constraint(cat, definition))))))
 }

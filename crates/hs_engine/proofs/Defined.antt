@@ -7,6 +7,7 @@ use Rattle.std.proofs.lemmas.List.Elements.{All-cons, All-nil}
 use Rattle.hs_columntext.specs.Columns as defaults
 use Rattle.hs_turns.specs.Database.{Database}
 use Rattle.hs_entering.specs.Defaults.{HasLawfulDefaults}
+use Rattle.hs_entries.specs.Entry.{statement_of}
 use Rattle.hs_language.specs.Definitions.{makes_long, still_referenced, unless_long, unless_referenced, unless_violated, violated_by}
 use Rattle.hs_language.specs.Sound.{has_fitting_default, is_sound}
 use Rattle.hs_language.specs.Sql.{are_numbered, definition_by, definition_in, is_valid}
@@ -18,6 +19,7 @@ use Rattle.hs_plan.specs.declared.definition.Definition.TheVariants as d
 use Rattle.hs_plan.specs.declared.plan.Plan.{Plan}
 use Rattle.hs_plan.specs.declared.plan.Plan.TheVariants as plan
 use Rattle.hs_reading.proofs.Bound.{proper_by}
+use Rattle.hs_reading.proofs.Offered.{offered}
 use Rattle.hs_language.specs.Proper.{IsProper}
 use Rattle.hs_language.proofs.Numbered.{is_next}
 use Rattle.hs_requests.specs.Plans.{plan_of}
@@ -35,7 +37,7 @@ pub whole_in : (db : Database) → is_valid db ≡ true → IsWhole db.things
 whole_in db h = (valid_from db h).whole
 
 pub proper_in : (things : Things) (text : Text) (definition : Definition) → IsWhole things → plan_of things text ≡ Ok (plan.Define definition) → IsProper things definition
-proper_in things text definition whole is = let its = meant things text (plan.Define definition) is in proper_by things its.0 definition whole its.2
+proper_in things text definition whole is = let its = meant things text (plan.Define definition) is in proper_by things its.0 definition whole (offered (statement_of text) its.0 its.1) its.2
 
 pub next_in : (db : Database) (definition : Definition) → is_valid db ≡ true → IsNext db.things definition (db.count + 1)
 next_in db definition h = is_next db.things db.count (and_parts (are_numbered db) (is_sound db.things && (all_fit db && all_hold db)) h).0 definition

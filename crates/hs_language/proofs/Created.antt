@@ -22,7 +22,7 @@ use Rattle.hs_schema.proofs.Made.{no_columns, no_names}
 use Rattle.hs_schema.proofs.Things.{named_there}
 use Rattle.hs_sentences.specs.Violations.{constraints_of}
 use Rattle.hs_language.specs.Sound.{has_fitting_default, is_owned, is_sound_constraint, is_sound_rule}
-use Rattle.hs_language.specs.Proper.{constraints_named}
+use Rattle.hs_language.specs.Added.{constraints_named}
 use Rattle.hs_language.proofs.Grown.{made_sound}
 use Rattle.hs_language.proofs.Keys.{kept_with_more, rule_kept}
 use Rattle.hs_language.proofs.Lists.{all_both, all_weaker}

@@ -15,7 +15,8 @@ use Rattle.hs_schema.proofs.Gone.{named_without_table}
 use Rattle.hs_sentences.specs.Violations.{constraints_of}
 use Rattle.hs_language.specs.Definitions.{references_table, rule_names}
 use Rattle.hs_language.specs.Sound.{has_fitting_default, is_owned, is_sound_constraint, is_sound_rule}
-use Rattle.hs_language.specs.Proper.{constraints_named, has_key_over}
+use Rattle.hs_language.specs.Added.{constraints_named}
+use Rattle.hs_language.specs.Proper.{has_key_over}
 use Rattle.hs_language.proofs.Keys.{rule_kept}
 use Rattle.hs_language.proofs.Lists.{all_and, all_filtered, all_mapped, all_unmapped, all_weaker, flat_filtered}
 use Rattle.hs_language.proofs.Tables.{constraints_if, same_choice, turned}

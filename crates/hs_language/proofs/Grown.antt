@@ -21,7 +21,7 @@ use Rattle.hs_schema.proofs.Made.{grown_parts, no_columns}
 use Rattle.hs_schema.proofs.Things.{same_number}
 use Rattle.hs_sentences.specs.Violations.{constraints_of}
 use Rattle.hs_language.specs.Sound.{has_fitting_default, is_owned, is_sound_constraint, is_sound_rule}
-use Rattle.hs_language.specs.Proper.{constraints_named}
+use Rattle.hs_language.specs.Added.{constraints_named}
 use Rattle.hs_language.proofs.Keys.{kept_with_more, rule_kept}
 use Rattle.hs_language.proofs.Lists.{all_both, all_weaker}
 use Rattle.hs_language.proofs.Tables.{all_parts, constraints_if, same_choice}

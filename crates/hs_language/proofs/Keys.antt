@@ -13,7 +13,8 @@ use Rattle.hs_plan.specs.declared.definition.Rule.TheVariants as rule
 use Rattle.hs_schema.specs.Catalogue.{Text, Things, table_named}
 use Rattle.hs_schema.specs.declared.table.Table.{Table}
 use Rattle.hs_language.specs.Sound.{is_sound_rule, references_key_of}
-use Rattle.hs_language.specs.Proper.{constraints_named, constraints_seen, has_key_over, is_key_over, rule_refers}
+use Rattle.hs_language.specs.Added.{constraints_named, constraints_seen}
+use Rattle.hs_language.specs.Proper.{has_key_over, is_key_over, rule_refers}
 
 -- ---- places
 

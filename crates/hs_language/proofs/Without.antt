@@ -27,7 +27,8 @@ use Rattle.hs_sentences.specs.Violations.{constraints_of}
 use Rattle.hs_footprint.specs.Touched.{are_same, key_columns}
 use Rattle.hs_language.specs.Definitions.{is_at}
 use Rattle.hs_language.specs.Sound.{has_fitting_default, is_owned, is_sound_constraint, is_sound_rule}
-use Rattle.hs_language.specs.Proper.{constraints_named, has_key_over, is_index, is_key_over}
+use Rattle.hs_language.specs.Added.{constraints_named}
+use Rattle.hs_language.specs.Proper.{has_key_over, is_index, is_key_over}
 use Rattle.hs_language.proofs.Keys.{rule_kept}
 use Rattle.hs_language.proofs.Lists.{all_and, all_filtered, all_split, all_both, all_unmapped, all_weaker, flat_filtered}
 use Rattle.hs_language.proofs.Tables.{constraints_if, constraints_own}

@@ -1,5 +1,7 @@
+pub mod Added
 pub mod Definitions
 pub mod Described
+pub mod Limits
 pub mod Outcomes
 pub mod Reading
 pub mod Sound

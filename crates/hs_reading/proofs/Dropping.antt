@@ -1,4 +1,4 @@
--- What a definition drops is there, and an index is one.
+-- What a definition drops is there; an index is one, and a constraint is none.
 use Rattle.std.proofs.Common.{◌≡◌, ℕ, Bool, true, false, cond, not, ◌&&◌, ◌||◌, is_some, filter, List, [], ◌∷◌, ◌++◌, map, Option, None, Some, refl, sym, ap, ◌∙◌, subst}
 use Rattle.std.proofs.lemmas.Bool.{and_from, and_parts, both_ways, eqb-true, or_left, or_right}
 use Rattle.std.proofs.lemmas.List.Folds.{list_any-append}
@@ -22,8 +22,9 @@ use Rattle.hs_schema.specs.declared.thing.Part.TheVariants as part
 use Rattle.hs_schema.specs.declared.thing.Thing.{Thing}
 use Rattle.hs_schema.proofs.Lists.{same_text}
 use Rattle.hs_sentences.specs.Violations.{constraints_of}
-use Rattle.hs_language.specs.Proper.{is_index, is_index_named}
+use Rattle.hs_language.specs.Proper.{is_constraint_named, is_index, is_index_named}
 use Rattle.hs_language.proofs.Tables.{constraints_own}
+use Rattle.hs_language.proofs.Without.{all_of_table}
 
 -- ---- tables
 
@@ -96,59 +97,6 @@ owner_of_constraint things n t name whole there h =
     (ap (list_any (is_named name)) (sym (constraints_own things n t there))
     ∙ any_weaker (drops.is_constraint_named name) (is_named name) (λ c so. (and_parts (bytes_eq name c.name) (not (drops.is_index c.rule)) so).0) t.constraints h)
 
--- ---- indexes
-
-index_same : (r : Rule) → drops.is_index r ≡ is_index r
-index_same (rule.Index columns) = refl
-index_same (rule.NotNull column) = refl
-index_same (rule.PrimaryKey columns) = refl
-index_same (rule.Unique columns) = refl
-index_same (rule.Check condition) = refl
-index_same (rule.ForeignKey key) = refl
-
--- where none has the name
-none_named : (name : Text) (ts : Things) → AllByRecursion (λ y. bytes_eq name y ≡ false) (names (owned ts)) → list_all (is_index_named name) (constraints_of ts) ≡ true
-none_named name [] h = refl
-none_named name (t ∷ ts) h = by t.part h (none_named name ts)
-  where
-    by : (p : Part) → AllByRecursion (λ y. bytes_eq name y ≡ false) (names (owned_in t.table p ++ owned ts)) → (AllByRecursion (λ y. bytes_eq name y ≡ false) (names (owned ts)) → list_all (is_index_named name) (constraints_of ts) ≡ true)
-        → list_all (is_index_named name) (map (λ c. (t.table.0, c)) (constraints_in p) ++ constraints_of ts) ≡ true
-    by (part.Table its storage columns) h rest = rest h
-    by (part.Column column) h rest = rest h
-    by (part.Constraint c) h rest = and_from (not (bytes_eq name c.name) || is_index c.rule) (list_all (is_index_named name) (constraints_of ts)) (ap (λ b. not b || is_index c.rule) h.0) (rest h.1)
-
-none_there : (name : Text) (ts : Things) → AllByRecursion (λ y. bytes_eq name y ≡ false) (names (owned ts)) → list_any (drops.is_index_named name) (flat_map (λ (x : Thing). constraints_in x.part) ts) ≡ false
-none_there name [] h = refl
-none_there name (t ∷ ts) h = by t.part h (none_there name ts)
-  where
-    by : (p : Part) → AllByRecursion (λ y. bytes_eq name y ≡ false) (names (owned_in t.table p ++ owned ts)) → (AllByRecursion (λ y. bytes_eq name y ≡ false) (names (owned ts)) → list_any (drops.is_index_named name) (flat_map (λ (x : Thing). constraints_in x.part) ts) ≡ false)
-        → list_any (drops.is_index_named name) (constraints_in p ++ flat_map (λ (x : Thing). constraints_in x.part) ts) ≡ false
-    by (part.Table its storage columns) h rest = rest h
-    by (part.Column column) h rest = rest h
-    by (part.Constraint c) h rest = ap (λ b. (b && drops.is_index c.rule) || list_any (drops.is_index_named name) (flat_map (λ (x : Thing). constraints_in x.part) ts)) h.0 ∙ rest h.1
-
--- where an index has a name, whatever has it is an index
-index_alone : (ts : Things) (name : Text) → IsDistinct bytes_eq (names (owned ts)) → list_any (drops.is_index_named name) (flat_map (λ (x : Thing). constraints_in x.part) ts) ≡ true → list_all (is_index_named name) (constraints_of ts) ≡ true
-index_alone [] name distinct h = refl
-index_alone (t ∷ ts) name distinct h = by t.part distinct (index_alone ts name) h
-  where
-    behind : (c : Constraint) → bytes_eq name c.name ≡ true → IsDistinct bytes_eq (c.name ∷ names (owned ts)) → AllByRecursion (λ y. bytes_eq name y ≡ false) (names (owned ts))
-    behind c e distinct = subst (λ (m : Text). AllByRecursion (λ y. bytes_eq m y ≡ false) (names (owned ts))) (sym (same_text name c.name e)) (IsDistinct-head bytes_eq c.name (names (owned ts)) distinct)
-
-    at : (c : Constraint) (b d : Bool) → bytes_eq name c.name ≡ b → drops.is_index c.rule ≡ d → IsDistinct bytes_eq (c.name ∷ names (owned ts))
-        → (list_any (drops.is_index_named name) (flat_map (λ (x : Thing). constraints_in x.part) ts) ≡ true → list_all (is_index_named name) (constraints_of ts) ≡ true)
-        → ((b && d) || list_any (drops.is_index_named name) (flat_map (λ (x : Thing). constraints_in x.part) ts)) ≡ true → ((not b || is_index c.rule) && list_all (is_index_named name) (constraints_of ts)) ≡ true
-    at c true true e f distinct rest h = and_from (is_index c.rule) (list_all (is_index_named name) (constraints_of ts)) (sym (index_same c.rule) ∙ f) (none_named name ts (behind c e distinct))
-    at c true false e f distinct rest h = absurd (both_ways (list_any (drops.is_index_named name) (flat_map (λ (x : Thing). constraints_in x.part) ts)) (none_there name ts (behind c e distinct)) h)
-    at c false d e f distinct rest h = rest h
-
-    by : (p : Part) → IsDistinct bytes_eq (names (owned_in t.table p ++ owned ts))
-        → (IsDistinct bytes_eq (names (owned ts)) → list_any (drops.is_index_named name) (flat_map (λ (x : Thing). constraints_in x.part) ts) ≡ true → list_all (is_index_named name) (constraints_of ts) ≡ true)
-        → list_any (drops.is_index_named name) (constraints_in p ++ flat_map (λ (x : Thing). constraints_in x.part) ts) ≡ true → list_all (is_index_named name) (map (λ c. (t.table.0, c)) (constraints_in p) ++ constraints_of ts) ≡ true
-    by (part.Table its storage columns) distinct rest h = rest distinct h
-    by (part.Column column) distinct rest h = rest distinct h
-    by (part.Constraint c) distinct rest h = at c (bytes_eq name c.name) (drops.is_index c.rule) refl refl distinct (rest (IsDistinct-tail bytes_eq c.name (names (owned ts)) distinct)) h
-
 any_kept : {X Y : Type 0} (f : X → List Y) (keep : X → Bool) (p : Y → Bool) (xs : List X) → list_any p (flat_map f (filter keep xs)) ≡ true → list_any p (flat_map f xs) ≡ true
 any_kept f keep p [] h = h
 any_kept f keep p (x ∷ xs) h = list_any-append p (f x) (flat_map f xs) ∙ by (keep x) h (any_kept f keep p xs)
@@ -161,6 +109,82 @@ any_kept f keep p (x ∷ xs) h = list_any-append p (f x) (flat_map f xs) ∙ by 
     by true h rest = two (list_any p (f x)) (sym (list_any-append p (f x) (flat_map f (filter keep xs))) ∙ h) rest
     by false h rest = or_right (list_any p (f x)) (list_any p (flat_map f xs)) (rest h)
 
+-- ---- what a name is of
+
+-- what has the name passes a test of rules
+abbrev is_only : (Rule → Bool) → Text → (ℕ × Constraint) → Bool
+is_only passes name c = not (bytes_eq name c.1.name) || passes c.1.rule
+
+-- it has the name, and passes
+abbrev is_passing : (Rule → Bool) → Text → Constraint → Bool
+is_passing passes name c = bytes_eq name c.name && passes c.rule
+
+module _ (passes : Rule → Bool) (name : Text) where
+  abbrev only : (ℕ × Constraint) → Bool
+  only = is_only passes name
+
+  abbrev some : Constraint → Bool
+  some = is_passing passes name
+
+  -- where none has the name
+  none_named : (ts : Things) → AllByRecursion (λ y. bytes_eq name y ≡ false) (names (owned ts)) → list_all only (constraints_of ts) ≡ true
+  none_named [] h = refl
+  none_named (t ∷ ts) h = by t.part h (none_named ts)
+    where
+      by : (p : Part) → AllByRecursion (λ y. bytes_eq name y ≡ false) (names (owned_in t.table p ++ owned ts)) → (AllByRecursion (λ y. bytes_eq name y ≡ false) (names (owned ts)) → list_all only (constraints_of ts) ≡ true)
+          → list_all only (map (λ c. (t.table.0, c)) (constraints_in p) ++ constraints_of ts) ≡ true
+      by (part.Table its storage columns) h rest = rest h
+      by (part.Column column) h rest = rest h
+      by (part.Constraint c) h rest = and_from (not (bytes_eq name c.name) || passes c.rule) (list_all only (constraints_of ts)) (ap (λ b. not b || passes c.rule) h.0) (rest h.1)
+
+  none_there : (ts : Things) → AllByRecursion (λ y. bytes_eq name y ≡ false) (names (owned ts)) → list_any some (flat_map (λ (x : Thing). constraints_in x.part) ts) ≡ false
+  none_there [] h = refl
+  none_there (t ∷ ts) h = by t.part h (none_there ts)
+    where
+      by : (p : Part) → AllByRecursion (λ y. bytes_eq name y ≡ false) (names (owned_in t.table p ++ owned ts)) → (AllByRecursion (λ y. bytes_eq name y ≡ false) (names (owned ts)) → list_any some (flat_map (λ (x : Thing). constraints_in x.part) ts) ≡ false)
+          → list_any some (constraints_in p ++ flat_map (λ (x : Thing). constraints_in x.part) ts) ≡ false
+      by (part.Table its storage columns) h rest = rest h
+      by (part.Column column) h rest = rest h
+      by (part.Constraint c) h rest = ap (λ b. (b && passes c.rule) || list_any some (flat_map (λ (x : Thing). constraints_in x.part) ts)) h.0 ∙ rest h.1
+
+  -- where one that has the name passes, whatever has it passes
+  passing_alone : (ts : Things) → IsDistinct bytes_eq (names (owned ts)) → list_any some (flat_map (λ (x : Thing). constraints_in x.part) ts) ≡ true → list_all only (constraints_of ts) ≡ true
+  passing_alone [] distinct h = refl
+  passing_alone (t ∷ ts) distinct h = by t.part distinct (passing_alone ts) h
+    where
+      behind : (c : Constraint) → bytes_eq name c.name ≡ true → IsDistinct bytes_eq (c.name ∷ names (owned ts)) → AllByRecursion (λ y. bytes_eq name y ≡ false) (names (owned ts))
+      behind c e distinct = subst (λ (m : Text). AllByRecursion (λ y. bytes_eq m y ≡ false) (names (owned ts))) (sym (same_text name c.name e)) (IsDistinct-head bytes_eq c.name (names (owned ts)) distinct)
+
+      at : (c : Constraint) (b d : Bool) → bytes_eq name c.name ≡ b → passes c.rule ≡ d → IsDistinct bytes_eq (c.name ∷ names (owned ts))
+          → (list_any some (flat_map (λ (x : Thing). constraints_in x.part) ts) ≡ true → list_all only (constraints_of ts) ≡ true)
+          → ((b && d) || list_any some (flat_map (λ (x : Thing). constraints_in x.part) ts)) ≡ true → ((not b || passes c.rule) && list_all only (constraints_of ts)) ≡ true
+      at c true true e f distinct rest h = and_from (passes c.rule) (list_all only (constraints_of ts)) f (none_named ts (behind c e distinct))
+      at c true false e f distinct rest h = absurd (both_ways (list_any some (flat_map (λ (x : Thing). constraints_in x.part) ts)) (none_there ts (behind c e distinct)) h)
+      at c false d e f distinct rest h = rest h
+
+      by : (p : Part) → IsDistinct bytes_eq (names (owned_in t.table p ++ owned ts))
+          → (IsDistinct bytes_eq (names (owned ts)) → list_any some (flat_map (λ (x : Thing). constraints_in x.part) ts) ≡ true → list_all only (constraints_of ts) ≡ true)
+          → list_any some (constraints_in p ++ flat_map (λ (x : Thing). constraints_in x.part) ts) ≡ true → list_all only (map (λ c. (t.table.0, c)) (constraints_in p) ++ constraints_of ts) ≡ true
+      by (part.Table its storage columns) distinct rest h = rest distinct h
+      by (part.Column column) distinct rest h = rest distinct h
+      by (part.Constraint c) distinct rest h = at c (bytes_eq name c.name) (passes c.rule) refl refl distinct (rest (IsDistinct-tail bytes_eq c.name (names (owned ts)) distinct)) h
+
+  -- so where it is one of a table
+  passing_of_table : (things : Things) (m : TableNo) (t : Table) → IsWhole things → table_numbered things m ≡ Some t → list_any some t.constraints ≡ true → list_all only (constraints_of things) ≡ true
+  passing_of_table things m t whole e h =
+      passing_alone things whole.constraint_names
+      (any_kept (λ (x : Thing). constraints_in x.part) (is_of m) some things (ap (list_any some) (sym (constraints_own things m t e)) ∙ h))
+
+-- ---- indexes
+
+index_same : (r : Rule) → drops.is_index r ≡ is_index r
+index_same (rule.Index columns) = refl
+index_same (rule.NotNull column) = refl
+index_same (rule.PrimaryKey columns) = refl
+index_same (rule.Unique columns) = refl
+index_same (rule.Check condition) = refl
+index_same (rule.ForeignKey key) = refl
+
 -- its table is there, and an index
 pub record IsIndex (things : Things) (name : Text) : Type 0 where
   pub owner : is_some (lookup (bytes_eq name) (owned things)) ≡ true
@@ -172,8 +196,8 @@ index_of_table things name m whole h = by (table_numbered things m) refl h
     by : (o : Option Table) → table_numbered things m ≡ o → option_map_or (λ (t : Table). drops.has_index t.constraints name) o false ≡ true → list_all (is_index_named name) (constraints_of things) ≡ true
     by None e h = absurd (let no : false ≡ true = h in cc)
     by (Some t) e h =
-        index_alone things name whole.constraint_names
-        (any_kept (λ (x : Thing). constraints_in x.part) (is_of m) (drops.is_index_named name) things (ap (list_any (drops.is_index_named name)) (sym (constraints_own things m t e)) ∙ h))
+        passing_of_table is_index name things m t whole e
+        (any_weaker (drops.is_index_named name) (is_passing is_index name) (λ c so. ap (λ b. bytes_eq name c.name && b) (sym (index_same c.rule)) ∙ so) t.constraints h)
 
 pub dropped_index : (things : Things) (name : Text) → IsWhole things → drops.is_index_of things name ≡ true → IsIndex things name
 dropped_index things name whole h = by (owner_of things name) refl h
@@ -187,3 +211,13 @@ dropped_index things name whole h = by (owner_of things name) refl h
         → IsIndex things name
     by None e h = absurd (let no : false ≡ true = h in cc)
     by (Some n) e h = record { owner = ap is_some e; alone = placed (option_map_or (place_in name) (table_numbered things n) None) h }
+
+-- ---- constraints
+
+-- what has the name in the table is no index
+pub dropped_constraint : (things : Things) (name : Text) (n : TableNo) (t : Table) → IsWhole things → table_numbered things n ≡ Some t → drops.has_constraint t.constraints name ≡ true → list_all (is_constraint_named name) t.constraints ≡ true
+dropped_constraint things name n t whole there h =
+    let passes = λ (r : Rule). not (is_index r) in
+    all_of_table (is_constraint_named name) things n t there
+    (passing_of_table passes name things n t whole there
+    (any_weaker (drops.is_constraint_named name) (is_passing passes name) (λ c so. ap (λ b. bytes_eq name c.name && not b) (sym (index_same c.rule)) ∙ so) t.constraints h))

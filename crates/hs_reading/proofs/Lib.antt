@@ -30,3 +30,7 @@ pub mod Keyed
 pub mod Naming
 pub mod Ruled
 pub mod Meets
+pub mod NewColumns
+pub mod Offered
+pub mod Placed
+pub mod Primary

@@ -50,7 +50,7 @@ module _ (r : Reading) (bound : IsBound r) (db : Database) (stands : Stands (lan
   after_definition d is judged_ =
       let same = same_judged db d e judged_ in
       let statement = bound.definitions db.things text d is in
-      let proper = proper_by db.things statement.0 d (valid_from db stands.0).whole statement.1 in
+      let proper = proper_by db.things statement.0 d (valid_from db stands.0).whole statement.1 statement.2 in
       subst (λ (x : Definition). is_valid (committed db (change.Define x ∷ [])) ≡ true) (sym same)
       (valid_after db d stands.0 proper (judged_ ∙ ap Ok same))
 

@@ -28,7 +28,7 @@ module _ (things : Things) (table : Text) (given : List Text) where
   free_by (Some own) its name is h = ap (is_taken things given) is ∙ not_so (is_taken things given own.name) (exists_at own) h
   free_by None its name is h = ap (is_taken things given) is.spelled ∙ is.least.free
 
-apart : (given : List Text) (n : Text) (names : List Text) → AllByRecursion (λ y. is_among (given ++ n ∷ []) y ≡ false) names → AllByRecursion (λ y. is_among given y ≡ false) names × AllByRecursion (λ y. bytes_eq n y ≡ false) names
+pub apart : (given : List Text) (n : Text) (names : List Text) → AllByRecursion (λ y. is_among (given ++ n ∷ []) y ≡ false) names → AllByRecursion (λ y. is_among given y ≡ false) names × AllByRecursion (λ y. bytes_eq n y ≡ false) names
 apart given n [] h = (tt, tt)
 apart given n (y ∷ ys) h =
     let parts = or_parts (is_among given y) (is_among (n ∷ []) y) (sym (list_any-append (bytes_eq y) given (n ∷ [])) ∙ h.0) in

@@ -1,5 +1,5 @@
 -- SQL's reading is one, and each is bound.
-use Rattle.std.proofs.Common.{◌≡◌, ℕ, Bool, List, Result, Ok, Err, sym, ◌∙◌, subst}
+use Rattle.std.proofs.Common.{◌≡◌, ℕ, Bool, true, List, Result, Ok, Err, sym, ◌∙◌, subst}
 use Rattle.hs_ast.specs.declared.statement.Stmt.{Stmt}
 use Rattle.hs_statements.specs.Bound.{bound}
 use Rattle.hs_statements.proofs.Answered.{statement_answer}
@@ -11,7 +11,9 @@ use Rattle.hs_plan.specs.declared.plan.Plan.TheVariants as plan
 use Rattle.hs_reached.proofs.Tables.{read, written}
 use Rattle.hs_read.specs.Read.{IsReadAs, Refusal, statement_in}
 use Rattle.hs_read.proofs.Reading.{is_read}
+use Rattle.hs_reading.specs.Offered.{is_offered}
 use Rattle.hs_reading.specs.Reading.{IsReading, reading_of}
+use Rattle.hs_reading.proofs.Offered.{offered}
 use Rattle.hs_requests.specs.Plans.{in_words}
 use Rattle.hs_requests.specs.Words.{bind_words, refusal_words}
 use Rattle.hs_requests.proofs.Told.{answered, requested, unread}
@@ -34,9 +36,9 @@ defines_by things at statement definition (Ok its) is e = subst (λ z. AnswersSt
 defines_by things at statement definition (Err fault) is e = let no : Err (bind_words at fault) ≡ Ok (plan.Define definition) = e in absurd (cc)
 
 binds : (r : Reading) → IsReading r → (things : Things) (entry : Text) (definition : Definition) (answer : Result Stmt Refusal) → IsReadAs (statement_of entry) answer
-    → r.plan things entry ≡ Ok (plan.Define definition) → (statement : Stmt) × AnswersStatement things statement (Ok (plan.Define definition))
+    → r.plan things entry ≡ Ok (plan.Define definition) → (statement : Stmt) × (is_offered statement ≡ true) × AnswersStatement things statement (Ok (plan.Define definition))
 binds r is things entry definition (Ok statement) has e =
-    (statement, defines_by things (place_of entry) statement definition (bound things statement) (statement_answer things statement) (sym (is.plan things entry statement has) ∙ e))
+    (statement, offered (statement_of entry) statement has, defines_by things (place_of entry) statement definition (bound things statement) (statement_answer things statement) (sym (is.plan things entry statement has) ∙ e))
 binds r is things entry definition (Err refusal) has e =
     let no : Err (refusal_words (place_of entry) refusal) ≡ Ok (plan.Define definition) = sym (is.unread things entry refusal has) ∙ e in absurd (cc)
 

@@ -14,6 +14,7 @@ use Rattle.hs_ast.specs.declared.definition.TableElement.{TableElement}
 use Rattle.hs_ast.specs.declared.definition.TableElement.TheVariants as element
 use Rattle.hs_ast.specs.declared.definition.TableRule.{TableRule}
 use Rattle.hs_ast.specs.declared.definition.TableRule.TheVariants as table
+use Rattle.hs_ast.specs.declared.expression.Expression.{Expression}
 use Rattle.hs_ast.specs.declared.word.Identifier.{Identifier}
 use Rattle.hs_elements.specs.Columns.{place_in}
 use Rattle.hs_elements.specs.Faults.{Text}
@@ -28,8 +29,9 @@ use Rattle.hs_plan.specs.declared.expression.Expr.{Expr}
 use Rattle.hs_plan.specs.declared.definition.Rule.{Rule}
 use Rattle.hs_plan.specs.declared.definition.Rule.TheVariants as rule
 use Rattle.hs_tables.specs.Additions.{named}
-use Rattle.hs_tables.specs.Rules.{all_rules, column_rule, element_rules, reference, table_rule}
+use Rattle.hs_tables.specs.Rules.{all_rules, check, column_rule, element_rules, not_null, primary_key, reference, table_rule, unique}
 use Rattle.hs_tables.specs.Site.{Sight}
+use Rattle.hs_reading.specs.Offered.{are_some, is_offered_element, is_offered_rule}
 use Rattle.hs_reading.proofs.Faults.{none_both}
 
 -- ---- what is known
@@ -137,9 +139,17 @@ both_good : (test : Rule → Bool) (xs ys : List (Meaning Rule)) → AllByRecurs
 both_good test [] ys a b = b
 both_good test (x ∷ xs) ys a b = (a.0, both_good test xs ys a.1 b)
 
-made_good : {A : Type 0} (test : Rule → Bool) (make : A → Rule) → ((a : A) → test (make a) ≡ true) → (o : Option A) → option_map_or test (option_map make o) true ≡ true
+pub made_good : {A : Type 0} (test : Rule → Bool) (make : A → Rule) → ((a : A) → test (make a) ≡ true) → (o : Option A) → option_map_or test (option_map make o) true ≡ true
 made_good test make so None = refl
 made_good test make so (Some a) = so a
+
+-- a test that each rule of a text meets, as what the rule means has no faults
+pub record AreGood (s : Sight) (test : Rule → Bool) : Type 0 where
+  pub of_not_null : (name : Identifier) → Good test (not_null s.own name)
+  pub of_primary : (list : List Identifier) → are_some list ≡ true → Good test (primary_key s.own list)
+  pub of_unique : (list : List Identifier) → are_some list ≡ true → Good test (unique s.own list)
+  pub of_check : (e : Expression) → Good test (check s.tables e)
+  pub of_reference : (at : ℕ) (list : List Identifier) (key : ForeignKey) → are_some list ≡ true → Good test (reference s at list key)
 
 -- a test of foreign keys alone
 pub record IsOfKeys (test : Rule → Bool) : Type 0 where
@@ -148,31 +158,42 @@ pub record IsOfKeys (test : Rule → Bool) : Type 0 where
   pub unique : (columns : List ℕ) → test (rule.Unique columns) ≡ true
   pub check : (condition : Expr) → test (rule.Check condition) ≡ true
 
-module _ (s : Sight) (test : Rule → Bool) (of_keys : IsOfKeys test) (good : (at : ℕ) (list : List Identifier) (key : ForeignKey) → Good test (reference s at list key)) where
-  column_good : (name : Identifier) (r : ColumnRule) → Good test (column_rule s name r)
-  column_good name column.NotNull h = made_good test rule.NotNull of_keys.not_null (place_in s.own.names name.name)
-  column_good name column.PrimaryKey h = made_good test rule.PrimaryKey of_keys.primary (places_in s.own.names (name ∷ []))
-  column_good name column.Unique h = made_good test rule.Unique of_keys.unique (places_in s.own.names (name ∷ []))
-  column_good name (column.Check e) h = made_good test rule.Check of_keys.check (tree_in (check_meaning s.tables e)).part
-  column_good name (column.References key) h = good name.at (name ∷ []) key h
+pub keys_good : (s : Sight) (test : Rule → Bool) → IsOfKeys test → ((at : ℕ) (list : List Identifier) (key : ForeignKey) → Good test (reference s at list key)) → AreGood s test
+keys_good s test of_keys good = record {
+  of_not_null = λ name h. made_good test rule.NotNull of_keys.not_null (place_in s.own.names name.name);
+  of_primary = λ list some h. made_good test rule.PrimaryKey of_keys.primary (places_in s.own.names list);
+  of_unique = λ list some h. made_good test rule.Unique of_keys.unique (places_in s.own.names list);
+  of_check = λ e h. made_good test rule.Check of_keys.check (tree_in (check_meaning s.tables e)).part;
+  of_reference = λ at list key some h. good at list key h;
+}
 
-  table_good : (at : ℕ) (r : TableRule) → Good test (table_rule s at r)
-  table_good at (table.PrimaryKey list) h = made_good test rule.PrimaryKey of_keys.primary (places_in s.own.names list)
-  table_good at (table.Unique list) h = made_good test rule.Unique of_keys.unique (places_in s.own.names list)
-  table_good at (table.Check e) h = made_good test rule.Check of_keys.check (tree_in (check_meaning s.tables e)).part
-  table_good at (table.ForeignKey list key) h = good at list key h
+module _ (s : Sight) (test : Rule → Bool) (good : AreGood s test) where
+  column_good : (name : Identifier) (r : ColumnRule) → Good test (column_rule s name r)
+  column_good name column.NotNull h = good.of_not_null name h
+  column_good name column.PrimaryKey h = good.of_primary (name ∷ []) refl h
+  column_good name column.Unique h = good.of_unique (name ∷ []) refl h
+  column_good name (column.Check e) h = good.of_check e h
+  column_good name (column.References key) h = good.of_reference name.at (name ∷ []) key refl h
+
+  table_good : (at : ℕ) (r : TableRule) → is_offered_rule r ≡ true → Good test (table_rule s at r)
+  table_good at (table.PrimaryKey list) some h = good.of_primary list some h
+  table_good at (table.Unique list) some h = good.of_unique list some h
+  table_good at (table.Check e) some h = good.of_check e h
+  table_good at (table.ForeignKey list key) some h = good.of_reference at list key some h
 
   columns_good : (name : Identifier) (ks : List ColumnConstraint) → AllByRecursion (Good test) (map (λ (k : ColumnConstraint). column_rule s name k.rule) ks)
   columns_good name [] = tt
   columns_good name (k ∷ ks) = (column_good name k.rule, columns_good name ks)
 
-  element_good : (e : TableElement) → AllByRecursion (Good test) (element_rules s e)
-  element_good (element.Column c) = columns_good c.name c.constraints
-  element_good (element.Constraint t) = (table_good t.at t.rule, tt)
+  element_good : (e : TableElement) → is_offered_element e ≡ true → AllByRecursion (Good test) (element_rules s e)
+  element_good (element.Column c) some = columns_good c.name c.constraints
+  element_good (element.Constraint t) some = (table_good t.at t.rule some, tt)
 
-  pub all_good : (es : List TableElement) → AllByRecursion (Good test) (all_rules s es)
-  all_good [] = tt
-  all_good (e ∷ es) = both_good test (element_rules s e) (all_rules s es) (element_good e) (all_good es)
+  pub all_good : (es : List TableElement) → list_all is_offered_element es ≡ true → AllByRecursion (Good test) (all_rules s es)
+  all_good [] some = tt
+  all_good (e ∷ es) some =
+      let parts = and_parts (is_offered_element e) (list_all is_offered_element es) some in
+      both_good test (element_rules s e) (all_rules s es) (element_good e parts.0) (all_good es parts.1)
 
 parts_good : (test : Rule → Bool) (ms : List (Meaning Rule)) → AllByRecursion (Good test) ms → flat_map (λ (m : Meaning Rule). m.faults) ms ≡ [] → list_all (λ (m : Meaning Rule). option_map_or test m.part true) ms ≡ true
 parts_good test [] good h = refl
