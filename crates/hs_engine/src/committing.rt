@@ -5,10 +5,9 @@ ghost use Rattle.hs_seams.specs.Stores.{Commits};
 ghost use Rattle.hs_seams.specs.World.{World};
 ghost use Rattle.hs_engine.specs.Store.{Stands};
 
-use crate::seating::{advance, back};
 use hs_base::{NoMemory, SessionNo};
-use hs_entering::settle;
-use hs_instance::Restoring;
+use hs_claims::Claims;
+use hs_instance::{Restoring, commit_numbered};
 use hs_log::Batch;
 use hs_logged::Logbook;
 use hs_plan::Changes;
@@ -36,11 +35,22 @@ pub(crate) fn committed<C: CheckTexts>(
 {
     let alloc = database.instance.alloc;
     let own = numbered(alloc, database.instance.count, changes)?;
-    back(&mut database.instance, 0)?;
-    let done = settle(alloc, session, own, conditions, database, book, made)?;
-    if done {
-        return Ok(true);
+    let commit = hs_sessions::Commit {
+        session,
+        changes: own,
+        claims: Claims::new(alloc),
+    };
+    let mut entered = *book;
+    let mut text = Batch::new(alloc);
+    let has_room = entered.enter(&commit, &database.instance.catalog, conditions, &mut text)?;
+    if !has_room {
+        return Ok(false);
     }
-    advance(&mut database.instance, changes)?;
-    Ok(false)
+    let may = commit_numbered(&mut database.instance, changes, &commit.changes)?;
+    if !may {
+        return Err(NoMemory);
+    }
+    made.append(&text)?;
+    *book = entered;
+    Ok(true)
 }

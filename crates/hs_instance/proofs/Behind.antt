@@ -36,7 +36,7 @@ frame_one db (change.Put table row values) h = refl
 frame_one db (change.Delete table row) h = refl
 frame_one db (change.Define definition) h = absurd cc
 
-frame_all : (db : Database) (cs : List Change) → list_any is_definition cs ≡ false → frame (apply db cs) ≡ frame db
+pub frame_all : (db : Database) (cs : List Change) → list_any is_definition cs ≡ false → frame (apply db cs) ≡ frame db
 frame_all db [] h = refl
 frame_all db (c ∷ cs) h = let parts = or_parts (is_definition c) (list_any is_definition cs) h in frame_all (make db c) cs parts.1 ∙ frame_one db c parts.0
 

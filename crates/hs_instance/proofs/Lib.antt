@@ -1,4 +1,6 @@
 pub mod Behind
 pub mod Held
+pub mod Inserts
+pub mod Numbered
 pub mod Ongoing
 pub mod Valid

@@ -1,14 +1,16 @@
 // A database in memory.
-ghost use Rattle.std.specs.Prelude.{◌≡◌, ◌+◌, ◌^◌, ◌<◌, ◌≤◌, [], List, false, length, IfOk, OnOk};
+ghost use Rattle.std.specs.Prelude.{◌≡◌, ◌+◌, ◌^◌, ◌<◌, ◌≤◌, [], List, true, false, length, IfOk, OnOk};
 ghost use Rattle.std.specs.List.{list_any};
-ghost use Rattle.hs_turns.specs.Database.{Database, apply, committed, defined, is_definition, make};
+ghost use Rattle.hs_turns.specs.Database.{Database, IsNumbered, apply, committed, defined, is_definition, make};
 ghost use Rattle.hs_plan.specs.declared.change.Change.{Change as TheChange};
 ghost use Rattle.hs_schema.specs.Catalogue.{IsBound, IsNext};
 ghost use Rattle.hs_instance.specs.Instance.{IsInstance, empty_database, violated_name};
+ghost use Rattle.hs_instance.specs.Staying.{are_inserts};
 
 use crate::defining::redefined_rows;
 use crate::naming::first_violated;
 use crate::settings::{control_after, level_after};
+use crate::settling::settle;
 use hs_acting::References;
 use hs_ast::{Isolation, TransactionControl};
 use hs_base::NoMemory;
@@ -95,6 +97,17 @@ impl Instance {
     {
         let made = numbered(self.alloc, self.count, changes)?;
         self.remake(made.as_slice())
+    }
+
+    /// Commits the changes that are on it, each of which inserts a row. The rows stay, and get the numbers of their changes. An
+    /// `Err` is want of memory, and then nothing is known of the database.
+    pub(crate) fn settle(&mut self, changes: &[Change]) -> Result<(), NoMemory>
+        requires { self.old.count + length changes.now ≤ 2 ^ 48 }
+        ensures { (db : Database) → IsInstance db changes.now self.old → IsNumbered db → are_inserts changes.now ≡ true → OnOk result (IsInstance (apply db changes.now) [] self.new) }
+    {
+        settle(self.alloc, &mut self.seated, self.count, changes)?;
+        self.count += changes.len() as u64;
+        Ok(())
     }
 
     /// Makes a definition that is bound, on which no changes of a transaction are. An `Err` is want of memory, and then nothing

@@ -12,9 +12,11 @@ mod making;
 mod naming;
 mod restoring;
 mod settings;
+mod settling;
+mod staying;
 mod testing;
 
-pub use committing::commit_lawful;
+pub use committing::{commit_lawful, commit_numbered};
 pub use instance::Instance;
 pub use restoring::Restoring;
 pub use settings::kind_of;
