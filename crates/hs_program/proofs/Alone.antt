@@ -5,7 +5,7 @@ use Rattle.hs_host.specs.declared.source.Source as source
 use Rattle.hs_host.specs.declared.host.Host as host
 use Rattle.hs_host.specs.Disk.{Pending}
 use Rattle.hs_host.specs.Files.{of, with_}
-use Rattle.hs_host.specs.Moments.{Call, on_file, asked, Moment, History, Since, OneFile, IsStill, disk_of}
+use Rattle.hs_host.specs.Moments.{on_file, asked, Moment, History, Since, OneFile, IsStill, disk_of}
 use Rattle.hs_host.specs.Files.{Five}
 use Rattle.hs_host.specs.Used.{ReadsFiles, Moves, ChangesFile}
 use Rattle.hs_host.proofs.Passing.{since_join, since_none, since_now, since_weaker}

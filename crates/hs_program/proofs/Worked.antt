@@ -3,7 +3,7 @@ use Rattle.std.proofs.Common.{◌≡◌, ◌⊎◌, ℕ, ◌^◌, true, false, L
 use Rattle.hs_host.specs.declared.file_kind.FileKind.TheVariants.{Log as LogFile}
 use Rattle.hs_host.specs.Disk.{Leaves}
 use Rattle.hs_host.specs.Files.{Five}
-use Rattle.hs_host.specs.Moments.{History, Moment, Since, disk_of}
+use Rattle.hs_host.specs.Moments.{History, Since, disk_of}
 use Rattle.hs_host.proofs.Passing.{since_none, since_weaker, since_join}
 use Rattle.hs_host.proofs.Used.{only_on}
 use Rattle.hs_log.specs.declared.log.Log.{Log as Kept}
@@ -11,7 +11,7 @@ use Rattle.hs_log.specs.Log.{IsLog, IsUnbornOrNew, IsWholeLog, epoch_in, is_born
 use Rattle.hs_run.specs.Crash.{IsHeld, IsLater, OnlyLog, texts_in}
 use Rattle.hs_run.specs.Future.{Future}
 use Rattle.hs_run.specs.Holding.{WritesPrefix}
-use Rattle.hs_run.specs.Prompt.{IsPrompt, due_for}
+use Rattle.hs_run.specs.Prompt.{IsOnTime, due_of}
 use Rattle.hs_run.specs.declared.stop.Stop.{Stop}
 use Rattle.hs_run.specs.declared.stop.Stop.TheVariants as stop
 use Rattle.hs_run.proofs.Alone.{alone_on}
@@ -129,7 +129,7 @@ pub record Turned (f : Future) (texts : List (List ℕ)) (input before : List �
   pub too_long : status ≡ InputTooLong → out ≡ before ++ told_within (2 ^ 30) f input
   pub log : status ≡ Done → IsWholeLog 1 (texts ++ texts_from f input) after.log
   pub moments : Since (IsHeld (length texts) (texts ++ texts_from f input) before) mid now
-  pub prompt : Since (IsPrompt (due_for f) mid.now) mid now
+  pub prompt : Since (IsOnTime (due_of texts f) mid.now) mid now
   pub others : OnlyLog files after
   pub alone : Since (IsLater mid.now) mid now
   pub whole : is_damaged status ≡ false
@@ -262,10 +262,11 @@ module _ (m : Meaning) (law : IsLawful m) (files : Five (List ℕ)) (input befor
       turned_crash : IsQuiet files start.now → Since (IsKept m files opened input before start.now) start now
       turned_crash quiet = since_join (since_weaker (found quiet) (λ at. found_kept m law files opened input before start.now at is first)) (since_weaker each_safe (λ at safe. inr safe))
 
-      turned_prompt : Since (IsPrompt (due_for (ahead m files.log opened)) start.now) start now
+      turned_prompt : Since (IsOnTime (due_of (texts_at files.log) (ahead m files.log opened)) start.now) start now
       turned_prompt =
-          since_join (unasked_prompt (due_for (ahead m files.log opened)) start.now (preparing_unasked prepared))
-          (since_weaker turned.prompt (λ at. prompt_from (due_for (ahead m files.log opened)) start.now mid.now at (unasked_taken (preparing_unasked prepared)) (told ∙ sym first)))
+          let due = due_of (texts_at files.log) (ahead m files.log opened) in
+          since_join (unasked_prompt due start.now (preparing_unasked prepared))
+          (since_weaker turned.prompt (λ at. prompt_from due start.now mid.now at (unasked_taken (preparing_unasked prepared)) (told ∙ sym first)))
 
       -- what the log gives is this
       same : (o : Opened) → IsOpened m files.log o → opened ≡ o
@@ -290,7 +291,7 @@ module _ (m : Meaning) (law : IsLawful m) (files : Five (List ℕ)) (input befor
         log = λ o there done. subst (λ (x : Opened). IsWholeLog 1 (texts_at files.log ++ texts_from (ahead m files.log x) input) after.log) (same o there) (turned.log done);
         reopens = λ o there done. subst (λ (x : Opened). IsOpened m after.log (ended_with m files.log x input)) (same o there) (reopened m law files.log after.log opened input is (turned.log done));
         others = only_on files between after LogFile only turned.others;
-        prompt = λ o there. subst (λ (x : Opened). Since (IsPrompt (due_for (ahead m files.log x)) start.now) start now) (same o there) turned_prompt;
+        prompt = λ o there. subst (λ (x : Opened). Since (IsOnTime (due_of (texts_at files.log) (ahead m files.log x)) start.now) start now) (same o there) turned_prompt;
         crash = λ quiet o there. subst (λ (x : Opened). Since (IsKept m files x input before start.now) start now) (same o there) (turned_crash quiet);
         crash_later = λ o there. subst (λ (x : Opened). Since (IsSafeOnce m files.log x input before) start now) (same o there) (since_join (nothing_once opened prepared) (since_weaker each_safe (λ at safe wrote. safe)));
         safe = λ quiet o there has. subst (λ (x : Opened). IsSafe m files.log x input before now.now) (same o there) turned_safe;

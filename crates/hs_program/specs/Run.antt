@@ -10,7 +10,7 @@ use Rattle.hs_log.specs.LogReading.{left_in}
 use Rattle.hs_log.specs.declared.log_reader.LogReader.{LogReader}
 use Rattle.hs_run.specs.Crash.{IsLater, OnlyLog, texts_in}
 use Rattle.hs_run.specs.Holding.{WritesPrefix}
-use Rattle.hs_run.specs.Prompt.{IsPrompt, due_for}
+use Rattle.hs_run.specs.Prompt.{IsOnTime, due_of}
 use Rattle.hs_program.specs.declared.damage.Damage.TheVariants.{Log, Invalid}
 use Rattle.hs_program.specs.declared.opening.Opening.{Opening}
 use Rattle.hs_program.specs.declared.status.Status.{Status}
@@ -65,7 +65,7 @@ pub record Runs (m : Meaning) (files : Five (List ℕ)) (input before : List ℕ
   pub opened_alone : (¬ (out ≡ before)) ⊎ ((status ≡ Done) ⊎ (status ≡ InputTooLong)) → GivesOneAlone m files.log
   pub done : (opened : Opened) → IsOpened m files.log opened → status ≡ Done → out ≡ before ++ all_told (ahead m files.log opened) input
   pub before_too_long : (opened : Opened) → IsOpened m files.log opened → status ≡ InputTooLong → out ≡ before ++ told_within (2 ^ 30) (ahead m files.log opened) input
-  pub prompt : (opened : Opened) → IsOpened m files.log opened → Since (IsPrompt (due_for (ahead m files.log opened)) start.now) start now
+  pub prompt : (opened : Opened) → IsOpened m files.log opened → Since (IsOnTime (due_of (texts_at files.log) (ahead m files.log opened)) start.now) start now
   pub log : (opened : Opened) → IsOpened m files.log opened → status ≡ Done → IsWholeLog 1 (texts_at files.log ++ texts_from (ahead m files.log opened) input) after.log
   pub reopens : (opened : Opened) → IsOpened m files.log opened → status ≡ Done → IsOpened m after.log (ended_with m files.log opened input)
   pub others : OnlyLog files after

@@ -7,7 +7,7 @@ ghost use Rattle.hs_host.specs.Used.{Told};
 ghost use Rattle.hs_log.specs.Log.{IsWholeLog, is_born};
 ghost use Rattle.hs_run.specs.Crash.{IsLater, OnlyLog};
 ghost use Rattle.hs_run.specs.Holding.{WritesPrefix};
-ghost use Rattle.hs_run.specs.Prompt.{IsPrompt, due_for};
+ghost use Rattle.hs_run.specs.Prompt.{IsPrompt, IsPromptlyLogged, due_for, logged_for};
 ghost use Rattle.hs_run.specs.Stop.{NoFaults};
 ghost use Rattle.hs_program.specs.Ahead.{ahead, all_told, told_within, texts_from, ended_with};
 ghost use Rattle.hs_program.specs.Command.{database_of};
@@ -40,7 +40,8 @@ use std::alloc::Global;
 /// changed, whatever the status is.
 ///
 /// Before more of the input is asked for, all lines of the transcript are written up to the first turn that needs an item which isn't
-/// whole in what was taken of it by then.
+/// whole in what was taken of it by then. A crash there leaves a log that has the commits that were found and those of these turns,
+/// no fewer and no more.
 ///
 /// Where anything was written, and at `Done` and `InputTooLong`, the commits of the log make one database alone, and the log is neither
 /// damaged nor invalid. Where the status names a damage or a violated constraint, the log gives no database and has no
@@ -60,7 +61,7 @@ pub fn run_over<H: Host, E: Engine + Drop>(alloc: Global, words: &Words, host: &
     ensures untouched { result ≡ Status.Usage → host.new ≡ host.old }
     ensures name { (result ≡ Status.Usage → ⊥) → (result ≡ Status.NoMemory → ⊥) → (H.standing host.new).name ≡ database_of words.now }
 
-    // What is written.
+    // What is written, and what is logged where input is asked for.
     ensures front { H.tells → IsHonest (H.standing host.old) → (opened : Opened) → IsOpened E.meaning (H.files host.old).log opened → WritesPrefix (H.written host.old) (H.written host.new) (all_told (ahead E.meaning (H.files host.old).log opened) (H.unread host.old)) }
     ensures opened_first { H.tells → IsHonest (H.standing host.old) → (¬ (H.written host.new ≡ H.written host.old)) ⊎ ((result ≡ Status.Done) ⊎ (result ≡ Status.InputTooLong)) → (opened : Opened) × IsOpened E.meaning (H.files host.old).log opened }
     ensures opened_alone { H.tells → IsHonest (H.standing host.old) → (¬ (H.written host.new ≡ H.written host.old)) ⊎ ((result ≡ Status.Done) ⊎ (result ≡ Status.InputTooLong)) → GivesOneAlone E.meaning (H.files host.old).log }
@@ -70,6 +71,7 @@ pub fn run_over<H: Host, E: Engine + Drop>(alloc: Global, words: &Words, host: &
     ensures too_long { H.tells → result ≡ Status.InputTooLong → 2 ^ 30 < length (H.unread host.old) }
     ensures before_too_long { H.tells → IsHonest (H.standing host.old) → (opened : Opened) → IsOpened E.meaning (H.files host.old).log opened → result ≡ Status.InputTooLong → H.written host.new ≡ H.written host.old ++ told_within (2 ^ 30) (ahead E.meaning (H.files host.old).log opened) (H.unread host.old) }
     ensures prompt { H.tells → IsHonest (H.standing host.old) → (opened : Opened) → IsOpened E.meaning (H.files host.old).log opened → Since (IsPrompt (due_for (ahead E.meaning (H.files host.old).log opened)) (H.history host.old).now) (H.history host.old) (H.history host.new) }
+    ensures prompt_log { H.tells → IsHonest (H.standing host.old) → (opened : Opened) → IsOpened E.meaning (H.files host.old).log opened → Since (IsPromptlyLogged (logged_for (texts_at (H.files host.old).log) (ahead E.meaning (H.files host.old).log opened)) (H.history host.old).now) (H.history host.old) (H.history host.new) }
 
     // What is logged.
     ensures log { H.tells → IsHonest (H.standing host.old) → (opened : Opened) → IsOpened E.meaning (H.files host.old).log opened → result ≡ Status.Done → IsWholeLog 1 (texts_at (H.files host.old).log ++ texts_from (ahead E.meaning (H.files host.old).log opened) (H.unread host.old)) (H.files host.new).log }

@@ -1,5 +1,5 @@
 -- How a run goes on, part after part.
-use Rattle.std.proofs.Common.{◌≡◌, ℕ, ◌+◌, ◌≤◌, false, List, [], ◌∷◌, ◌++◌, length, take, Result, Ok, Err, refl, sym, ap, subst, ◌∙◌, arith, append_assoc, length-append}
+use Rattle.std.proofs.Common.{◌≡◌, ℕ, ◌+◌, ◌≤◌, List, [], ◌∷◌, ◌++◌, length, take, Result, Ok, Err, refl, sym, ap, subst, ◌∙◌, arith, append_assoc, length-append}
 use Rattle.std.specs.Result.{IsErrAnd}
 use Rattle.std.proofs.lemmas.List.{take-append-le, take_all}
 use Rattle.hs_host.specs.declared.source.Source as source
@@ -13,7 +13,6 @@ use Rattle.hs_log.proofs.Logs.{log_on as log_stays}
 use Rattle.hs_entries.specs.Left.{KeepsRoom, Left}
 use Rattle.hs_entries.specs.Left.{whole_of}
 use Rattle.hs_entries.specs.Reader.{ahead as reader_ahead, has_ended, left as input_left, left_items, left_over, left_whole, next_number, room}
-use Rattle.hs_entries.specs.declared.reader.EntryReader.{EntryReader}
 use Rattle.hs_machine.specs.Acknowledged.{AcknowledgesLines}
 use Rattle.hs_run.specs.declared.outgoing.Outgoing.{Outgoing}
 use Rattle.hs_run.specs.declared.running.Running.{Running}
@@ -25,7 +24,7 @@ use Rattle.hs_run.specs.Outgoing.{HandsOn, IsServing, IsTelling, failing, standi
 use Rattle.hs_run.specs.Pieces.{AreTrue, Gives, Piece, told_by, made_by}
 use Rattle.hs_run.specs.Future.{Counts, Future}
 use Rattle.hs_run.specs.declared.gathered.Gathered.{Gathered}
-use Rattle.hs_run.specs.Prompt.{AsksNothing, IsPrompt}
+use Rattle.hs_run.specs.Prompt.{AsksNothing, Due, IsOnTime}
 use Rattle.hs_run.specs.Running.{EndsWithin, Follows, GoesOn, HasNext, IsDue, IsSane, IsTooLong, MovesOn, ahead, ahead_within, pieces}
 use Rattle.hs_run.specs.Stop.{NoFaults, RunStops}
 use Rattle.hs_run.proofs.Holding.{handed_reading, held_telling}
@@ -45,9 +44,9 @@ module _ {T H : Type 0} (t : turns.Ghosts T) (s : source.Ghosts H) (g : host.Gho
 
   -- ---- what is due
 
-  -- in a part of a run input is asked for when that is written
+  -- in a part of a run input is asked for when that is written and logged
   abbrev pub Prompts : Running T → H → H → Type 0
-  Prompts a h0 h1 = (f : Future) → IsSane t s g f a h0 → Told s g h0 → (due : List ℕ → List ℕ) (start : Moment) → IsDue g due start f a h0 → Since (IsPrompt due start) (g.history h0) (g.history h1)
+  Prompts a h0 h1 = (f : Future) → IsSane t s g f a h0 → Told s g h0 → (due : Due) (start : Moment) → IsDue g due start f a h0 → Since (IsOnTime due start) (g.history h0) (g.history h1)
 
   pub prompts_silent : (a : Running T) (h0 h1 : H) → AsksNothing s g h0 h1 → Prompts a h0 h1
   prompts_silent a h0 h1 silent f sane told due start is_due = unasked_prompt due start (silent told)
@@ -55,23 +54,39 @@ module _ {T H : Type 0} (t : turns.Ghosts T) (s : source.Ghosts H) (g : host.Gho
   pub prompts_then : (a : Running T) (h0 h1 h2 : H) → (Told s g h0 → Told s g h1) → Prompts a h0 h1 → AsksNothing s g h1 h2 → Prompts a h0 h2
   prompts_then a h0 h1 h2 still first silent f sane told due start is_due = since_join (first f sane told due start is_due) (unasked_prompt due start (silent (still told)))
 
-  -- what is gathered goes out, where the reader has the same before it
+  -- what is gathered goes out
+  pub record KeepsAll (a b : Running T) (h0 h1 : H) : Type 0 where
+    pub told : g.written h1 ++ b.outgoing.gathered.told ≡ g.written h0 ++ a.outgoing.gathered.told
+    pub made : texts_in (g.files h1) ++ b.outgoing.gathered.made ≡ texts_in (g.files h0) ++ a.outgoing.gathered.made
+
+  -- and the reader has the same before it
   pub due_handing : (f : Future) (a b : Running T) (h0 h1 : H) → reader_ahead b.reader ≡ reader_ahead a.reader → room b.reader ≡ room a.reader → next_number b.reader ≡ next_number a.reader → has_ended b.reader ≡ has_ended a.reader
-      → (g.history h1).now.taken ≡ (g.history h0).now.taken → g.written h1 ++ b.outgoing.gathered.told ≡ g.written h0 ++ a.outgoing.gathered.told → (due : List ℕ → List ℕ) (start : Moment) → IsDue g due start f a h0 → IsDue g due start f b h1
-  due_handing f a b h0 h1 ahead_is room_is number ended taken told due start is_due = record {
-    given = is_due.given;
-    taken = taken ∙ is_due.taken;
-    told = λ on rest within.
-        let same : left_over b.reader rest ≡ left_over a.reader rest = rw (ahead_is, room_is, number) refl in
-        ap (λ (l : Left). g.written h1 ++ (b.outgoing.gathered.told ++ told_by (f.taken (whole_of l)))) same
-        ∙ behind (g.written h0) a.outgoing.gathered.told (g.written h1) b.outgoing.gathered.told (told_by (f.taken (whole_of (left_over a.reader rest)))) told
-        ∙ is_due.told (sym ended ∙ on) rest (omega (arith, within, room_is, ap (λ (l : List ℕ). length (l ++ rest)) ahead_is));
-  }
+      → (g.history h1).now.taken ≡ (g.history h0).now.taken → KeepsAll a b h0 h1 → (due : Due) (start : Moment) → IsDue g due start f a h0 → IsDue g due start f b h1
+  due_handing f a b h0 h1 ahead_is room_is number ended taken keeps due start is_due =
+      let same : (rest : List ℕ) → left_over b.reader rest ≡ left_over a.reader rest = λ rest. rw (ahead_is, room_is, number) refl in
+      let fits : (rest : List ℕ) → length (reader_ahead b.reader ++ rest) ≤ room b.reader → length (reader_ahead a.reader ++ rest) ≤ room a.reader =
+      λ rest within. omega (arith, within, room_is, ap (λ (l : List ℕ). length (l ++ rest)) ahead_is) in
+      record {
+        given = is_due.given;
+        taken = taken ∙ is_due.taken;
+        told = λ on rest within.
+            ap (λ (l : Left). g.written h1 ++ (b.outgoing.gathered.told ++ told_by (f.taken (whole_of l)))) (same rest)
+            ∙ behind (g.written h0) a.outgoing.gathered.told (g.written h1) b.outgoing.gathered.told (told_by (f.taken (whole_of (left_over a.reader rest)))) keeps.told
+            ∙ is_due.told (sym ended ∙ on) rest (fits rest within);
+        made = λ on rest within.
+            ap (λ (l : Left). texts_in (g.files h1) ++ (b.outgoing.gathered.made ++ made_by (f.taken (whole_of l)))) (same rest)
+            ∙ behind (texts_in (g.files h0)) a.outgoing.gathered.made (texts_in (g.files h1)) b.outgoing.gathered.made (made_by (f.taken (whole_of (left_over a.reader rest)))) keeps.made
+            ∙ is_due.made (sym ended ∙ on) rest (fits rest within);
+      }
 
   -- a piece is gathered
   pub told_gives : (w : List ℕ) (old new : Gathered) (before after : List Piece) → Gives before after old new → w ++ (new.told ++ told_by after) ≡ w ++ (old.told ++ told_by before)
   told_gives w old new before after gives =
       ap (λ (l : List ℕ). w ++ l) (ap (λ (l : List ℕ). l ++ told_by after) gives.told ∙ append_assoc old.told gives.piece.told (told_by after) ∙ ap (λ (l : List ℕ). old.told ++ l) (sym (ap told_by gives.is)))
+
+  pub made_gives : (ts : List (List ℕ)) (old new : Gathered) (before after : List Piece) → Gives before after old new → ts ++ (new.made ++ made_by after) ≡ ts ++ (old.made ++ made_by before)
+  made_gives ts old new before after gives =
+      ap (λ (l : List (List ℕ)). ts ++ l) (ap (λ (l : List (List ℕ)). l ++ made_by after) gives.made ∙ append_assoc old.made gives.piece.made (made_by after) ∙ ap (λ (l : List (List ℕ)). old.made ++ l) (sym (ap made_by gives.is)))
 
   -- ---- parts
 
@@ -157,7 +172,7 @@ module _ {T H : Type 0} (t : turns.Ghosts T) (s : source.Ghosts H) (g : host.Gho
   pub moves_with : {R : Type 0} (a b : Running T) (h0 h1 : H) (result : Result R Stop) → b.turns ≡ a.turns → (s.tells → left_items b.reader (s.unread h1) ≡ left_items a.reader (s.unread h0))
       → (s.tells → IsTooLong a (s.unread h0) → left_whole b.reader (s.unread h1) ≡ left_whole a.reader (s.unread h0)) → (s.tells → KeepsRoom (input_left a.reader (s.unread h0)) (input_left b.reader (s.unread h1)))
       → HandsOn s g a.outgoing h0 b.outgoing h1 result → Prompts a h0 h1
-      → (Told s g h0 → g.written h1 ++ b.outgoing.gathered.told ≡ g.written h0 ++ a.outgoing.gathered.told → (f : Future) (due : List ℕ → List ℕ) (start : Moment) → IsDue g due start f a h0 → IsDue g due start f b h1)
+      → (Told s g h0 → KeepsAll a b h0 h1 → (f : Future) (due : Due) (start : Moment) → IsDue g due start f a h0 → IsDue g due start f b h1)
       → MovesOn t s g a h0 b h1 result
   moves_with {R} a b h0 h1 (Err e) turns same_items same_whole count hands prompts due_on = λ f sane. record {
     next = tt;
@@ -187,7 +202,7 @@ module _ {T H : Type 0} (t : turns.Ghosts T) (s : source.Ghosts H) (g : host.Gho
             made = λ told. ap (λ (p : List Piece). texts_in (g.files h1) ++ (b.outgoing.gathered.made ++ made_by p)) (items told.tells) ∙ behind (texts_in (g.files h0)) a.outgoing.gathered.made (texts_in (g.files h1)) b.outgoing.gathered.made (made_by (ahead f a (s.unread h0))) (hands.made told);
             commits = λ tells. ap (λ (p : List Piece). f.commits + length (made_by p)) (items tells);
             count = count;
-            due = λ told. due_on told (hands.told told.tells) f;
+            due = λ told. due_on told (record { told = hands.told told.tells; made = hands.made told }) f;
           };
         };
         telling = hands.telling;
@@ -203,7 +218,7 @@ module _ {T H : Type 0} (t : turns.Ghosts T) (s : source.Ghosts H) (g : host.Gho
       moves_with a b h0 h1 result turns (λ _. rw (reader, unread) refl) (λ _ _. rw (reader, unread) refl)
       (λ _. let room : input_left b.reader (s.unread h1) ≡ input_left a.reader (s.unread h0) = rw (reader, unread) refl in omega (arith, ap (λ (l : Left). l.room) room, ap (λ (l : Left). length l.input) room)) hands
       (prompts_silent a h0 h1 silent)
-      (λ told is f due start. due_handing f a b h0 h1 (ap reader_ahead reader) (ap room reader) (ap next_number reader) (ap has_ended reader) (unasked_taken (silent told)) is due start)
+      (λ told keeps f due start. due_handing f a b h0 h1 (ap reader_ahead reader) (ap room reader) (ap next_number reader) (ap has_ended reader) (unasked_taken (silent told)) keeps due start)
 
   -- a run ends for want of memory, whatever takes turns has become
   pub moves_wanting : {R : Type 0} (a b : Running T) (o o1 : Outgoing) (h0 h1 : H) (stop : Stop) → o ≡ a.outgoing → HandsOn s g o h0 o1 h1 (failing stop) → Prompts a h0 h1 → MovesOn {R = R} t s g a h0 b h1 (Err stop)
@@ -231,7 +246,7 @@ module _ {T H : Type 0} (t : turns.Ghosts T) (s : source.Ghosts H) (g : host.Gho
   marked_within (x ∷ made) all before within = within
 
   -- Only the input was used, and a piece was gathered.
-  module _ (f next : Future) (a b : Running T) (h0 h1 : H) (sane : IsSane t s g f a h0) (at : t.has_ahead b.turns next) (input : UsesInput s g h0 h1) (later : s.input_faults h0 ≤ s.input_faults h1) (calm : NoFaults s g h0 h1) (out : s.tells → (g.history h0).now.out ≡ g.written h0) (log : b.outgoing.log ≡ a.outgoing.log) (marked : b.outgoing.standing ≡ standing_with b.outgoing.gathered.made (length b.outgoing.gathered.told) a.outgoing.standing) (grown : length a.outgoing.gathered.told ≤ length b.outgoing.gathered.told) (commits : Counts f next a.outgoing.gathered b.outgoing.gathered) (all : s.tells → Gives (ahead f a (s.unread h0)) (ahead next b (s.unread h1)) a.outgoing.gathered b.outgoing.gathered) (whole : s.tells → IsTooLong a (s.unread h0) → Gives (ahead_within f a (s.unread h0)) (ahead_within next b (s.unread h1)) a.outgoing.gathered b.outgoing.gathered) (count : s.tells → KeepsRoom (input_left a.reader (s.unread h0)) (input_left b.reader (s.unread h1))) (prompts : Prompts a h0 h1) (due_on : Told s g h0 → (due : List ℕ → List ℕ) (start : Moment) → IsDue g due start f a h0 → IsDue g due start next b h1) where
+  module _ (f next : Future) (a b : Running T) (h0 h1 : H) (sane : IsSane t s g f a h0) (at : t.has_ahead b.turns next) (input : UsesInput s g h0 h1) (later : s.input_faults h0 ≤ s.input_faults h1) (calm : NoFaults s g h0 h1) (out : s.tells → (g.history h0).now.out ≡ g.written h0) (log : b.outgoing.log ≡ a.outgoing.log) (marked : b.outgoing.standing ≡ standing_with b.outgoing.gathered.made (length b.outgoing.gathered.told) a.outgoing.standing) (grown : length a.outgoing.gathered.told ≤ length b.outgoing.gathered.told) (commits : Counts f next a.outgoing.gathered b.outgoing.gathered) (all : s.tells → Gives (ahead f a (s.unread h0)) (ahead next b (s.unread h1)) a.outgoing.gathered b.outgoing.gathered) (whole : s.tells → IsTooLong a (s.unread h0) → Gives (ahead_within f a (s.unread h0)) (ahead_within next b (s.unread h1)) a.outgoing.gathered b.outgoing.gathered) (count : s.tells → KeepsRoom (input_left a.reader (s.unread h0)) (input_left b.reader (s.unread h1))) (prompts : Prompts a h0 h1) (due_on : Told s g h0 → (due : Due) (start : Moment) → IsDue g due start f a h0 → IsDue g due start next b h1) where
     still : Told s g h1 → Told s g h0
     still told = record { tells = told.tells; honest = subst IsHonest input.standing told.honest }
 

@@ -22,7 +22,7 @@ use Rattle.hs_run.specs.Lines.{closed_line, opened_line}
 use Rattle.hs_run.specs.Outgoing.{Closes, Opens}
 use Rattle.hs_run.specs.Pieces.{AreTrue, Piece, made_by, told_by, transcript, transcript_within}
 use Rattle.hs_run.specs.Future.{Future}
-use Rattle.hs_run.specs.Prompt.{AsksNothing, IsPrompt, due_for}
+use Rattle.hs_run.specs.Prompt.{AsksNothing, Due, IsOnTime, due_of}
 use Rattle.hs_run.specs.Running.{EndsWithin, Follows, HasNoneAhead, IsBeginning, IsDue, IsOver, IsReading, IsSane, ahead, ahead_within, pieces}
 use Rattle.hs_run.specs.Used.{TakesTurns}
 use Rattle.hs_run.proofs.Moving.{done}
@@ -36,7 +36,7 @@ use Rattle.hs_run.proofs.Used.{told_on_log, turns_on}
 pub record Runs {R H : Type 0} (s : source.Ghosts H) (g : host.Ghosts H) (f : Future) (old new : H) (result : Result R Stop) : Type 0 where
   pub front : s.tells → WritesPrefix (g.written old) (g.written new) (transcript f.commits (pieces f (items 1 (s.unread old))))
   pub moments : Told s g old → Since (IsHeld (length (texts_in (g.files old))) (texts_in (g.files old) ++ made_by (pieces f (items 1 (s.unread old)))) (g.written old)) (g.history old) (g.history new)
-  pub prompt : Told s g old → Since (IsPrompt (due_for f) (g.history old).now) (g.history old) (g.history new)
+  pub prompt : Told s g old → Since (IsOnTime (due_of (texts_in (g.files old)) f) (g.history old).now) (g.history old) (g.history new)
   pub ends : TakesTurns s g old new result
 
 -- the first line was written, and a new reader has the whole input before it
@@ -59,12 +59,15 @@ module _ {T H : Type 0} (t : turns.Ghosts T) (s : source.Ghosts H) (g : host.Gho
   abbrev all : List Piece
   all = pieces f (items 1 (s.unread h))
 
+  abbrev due : Due
+  due = due_of (texts_in (g.files h)) f
+
   -- the first line couldn't be written
   pub runs_opening : {R : Type 0} (o o1 : Outgoing) (h1 : H) (result : Result R Stop) → Opens s g commits o h o1 h1 result → AsksNothing s g h h1 → Runs s g f h h1 result
   runs_opening o o1 h1 result opens silent = record {
     front = λ tells. front_on (g.written h) (g.written h) (g.written h1) (opened_line commits) (told_by all ++ closed_line (commits + length (made_by all))) _ refl (omega arith) (opens.front tells);
     moments = λ told. opens.moments told (made_by all);
-    prompt = λ told. unasked_prompt (due_for f) (g.history h).now (silent told);
+    prompt = λ told. unasked_prompt due (g.history h).now (silent told);
     ends = opens.ends;
   }
 
@@ -107,8 +110,8 @@ module _ {T H : Type 0} (t : turns.Ghosts T) (s : source.Ghosts H) (g : host.Gho
         since_join (started.opens.moments told (made_by all))
         (subst (λ (ts : List (List ℕ)). Since (IsHeld (length (texts_in (g.files h))) ts (g.written h)) (g.history h1) (g.history h2)) (so_made told) (moves.moments (told_on_log started.opens.ends.uses told) _ _ (started.opens.telling told)))
 
-    -- before any input was taken the first line is due, and was written
-    first_due : Told s g h → IsDue g (due_for f) (g.history h).now f r h1
+    -- before any input was taken the first line is due, and was written, and the log is as it was
+    first_due : Told s g h → IsDue g due (g.history h).now f r h1
     first_due told = record {
       given = [];
       taken = unasked_taken (started.silent told) ∙ sym (append-nil (g.history h).now.taken);
@@ -117,11 +120,15 @@ module _ {T H : Type 0} (t : turns.Ghosts T) (s : source.Ghosts H) (g : host.Gho
           ∙ ap (λ (is : List Item). g.written h1 ++ told_by (f.taken is)) (fresh_over r.reader rest started.none started.first within)
           ∙ ap (λ (w : List ℕ). w ++ told_by (f.taken (whole_items 1 rest))) (started.opens.told told.tells ∙ ap (λ (w : List ℕ). w ++ opened_line commits) (sym (started.out told.tells)))
           ∙ append_assoc (g.history h).now.out (opened_line commits) (told_by (f.taken (whole_items 1 rest)));
+      made = λ goes_on rest within.
+          ap (λ (l : List (List ℕ)). texts_in (g.files h1) ++ (l ++ made_by (f.taken (whole_of (left_over r.reader rest))))) started.opens.none_made
+          ∙ ap (λ (is : List Item). texts_in (g.files h1) ++ made_by (f.taken is)) (fresh_over r.reader rest started.none started.first within)
+          ∙ ap (λ (x : Five (List ℕ)). texts_in x ++ made_by (f.taken (whole_items 1 rest))) (started.opens.files told);
     }
 
-    prompted : {R : Type 0} (r2 : Running T) (h2 : H) (result : Result R Stop) → Follows t s g f r h1 r2 h2 result → Told s g h → Since (IsPrompt (due_for f) (g.history h).now) (g.history h) (g.history h2)
+    prompted : {R : Type 0} (r2 : Running T) (h2 : H) (result : Result R Stop) → Follows t s g f r h1 r2 h2 result → Told s g h → Since (IsOnTime due (g.history h).now) (g.history h) (g.history h2)
     prompted r2 h2 result moves told =
-        since_join (unasked_prompt (due_for f) (g.history h).now (started.silent told)) (moves.prompt (told_on_log started.opens.ends.uses told) (due_for f) (g.history h).now (first_due told))
+        since_join (unasked_prompt due (g.history h).now (started.silent told)) (moves.prompt (told_on_log started.opens.ends.uses told) due (g.history h).now (first_due told))
 
     -- the run stopped before its last line
     pub runs_moving : {R : Type 0} (r2 : Running T) (h2 : H) (result : Result R Stop) → Follows t s g f r h1 r2 h2 result → Runs s g f h h2 result
@@ -185,7 +192,7 @@ module _ {T H : Type 0} (t : turns.Ghosts T) (s : source.Ghosts H) (g : host.Gho
                 since_join (moved r3 h3 (done t s g tt) moves told)
                 (subst (λ (ts : List (List ℕ)). Since (IsHeld (length (texts_in (g.files h))) ts (g.written h)) (g.history h3) (g.history h4)) (made_all told)
                 (closes.moments (told_on_log so_far.uses told) _ _ (moves.telling (told_on_log started.opens.ends.uses told) _ _ (started.opens.telling told))));
-            prompt = λ told. since_join (prompted r3 h3 (done t s g tt) moves told) (unasked_prompt (due_for f) (g.history h).now (silent (told_on_log so_far.uses told)));
+            prompt = λ told. since_join (prompted r3 h3 (done t s g tt) moves told) (unasked_prompt due (g.history h).now (silent (told_on_log so_far.uses told)));
             ends = turns_on result so_far.uses so_far.calm closes.ends;
           }
 

@@ -7,12 +7,18 @@ use Rattle.hs_host.specs.Files.{IsOpen}
 use Rattle.hs_host.specs.Moments.{Moment, OneFile, Since}
 use Rattle.hs_host.specs.Used.{Told}
 use Rattle.hs_log.specs.Log.{HasNoneOrAll, IsLog, IsWholeLog, epoch_in}
+use Rattle.hs_run.specs.declared.gathered.Gathered.{Gathered}
 use Rattle.hs_run.specs.declared.outgoing.Outgoing.{Outgoing}
 use Rattle.hs_run.specs.declared.stop.Stop.{Stop}
 use Rattle.hs_run.specs.Crash.{IsHeld, texts_in}
 use Rattle.hs_run.specs.Holding.{WritesPrefix, IsGathered}
 use Rattle.hs_run.specs.Lines.{opened_line, closed_line}
 use Rattle.hs_run.specs.Used.{TakesTurns}
+
+-- nothing is to be told, and no commit is to be logged
+pub record IsEmpty (gathered : Gathered) : Type 0 where
+  pub told : gathered.told ≡ []
+  pub made : gathered.made ≡ []
 
 -- How much of what is told stands, where these commits are to be logged: all where there are none, else so much as before.
 abbrev pub standing_with : List (List ℕ) → ℕ → ℕ → ℕ

@@ -20,7 +20,7 @@ use Rattle.hs_run.specs.Future.{Future}
 use Rattle.hs_run.specs.Items.{AreTold}
 use Rattle.hs_run.specs.Outgoing.{IsServing, IsTelling}
 use Rattle.hs_run.specs.Pieces.{Piece, AreTrue, told_by, made_by}
-use Rattle.hs_run.specs.Prompt.{IsPrompt}
+use Rattle.hs_run.specs.Prompt.{Due, IsOnTime}
 use Rattle.hs_run.specs.Used.{TakesTurns}
 
 -- all pieces that are left over these items to the end of the run
@@ -85,12 +85,14 @@ pub record IsOver (r : EntryReader) : Type 0 where
   pub none : reader_ahead r ≡ []
 
 -- What is due when so much of the input was taken, and until the input has ended when any bytes that may be used come behind it, is what
--- was written and gathered, with what comes of the items that are whole in the bytes at hand and in these.
-pub record IsDue {T H : Type 0} (g : host.Ghosts H) (due : List ℕ → List ℕ) (start : Moment) (f : Future) (r : Running T) (h : H) : Type 0 where
+-- was written and gathered, or logged and gathered, with what comes of the items that are whole in the bytes at hand and in these.
+pub record IsDue {T H : Type 0} (g : host.Ghosts H) (due : Due) (start : Moment) (f : Future) (r : Running T) (h : H) : Type 0 where
   pub given : List ℕ
   pub taken : (g.history h).now.taken ≡ start.taken ++ given
   pub told : has_ended r.reader ≡ false → (rest : List ℕ) → length (reader_ahead r.reader ++ rest) ≤ room r.reader
-      → g.written h ++ (r.outgoing.gathered.told ++ told_by (f.taken (whole_of (left_over r.reader rest)))) ≡ start.out ++ due (given ++ rest)
+      → g.written h ++ (r.outgoing.gathered.told ++ told_by (f.taken (whole_of (left_over r.reader rest)))) ≡ start.out ++ due.told (given ++ rest)
+  pub made : has_ended r.reader ≡ false → (rest : List ℕ) → length (reader_ahead r.reader ++ rest) ≤ room r.reader
+      → texts_in (g.files h) ++ (r.outgoing.gathered.made ++ made_by (f.taken (whole_of (left_over r.reader rest)))) ≡ due.made (given ++ rest)
 
 -- What is left to be told and logged is what was left before, with what is gathered; what is due is so still; and the reader counts what
 -- it takes.
@@ -101,7 +103,7 @@ pub record GoesOn {T H : Type 0} (s : source.Ghosts H) (g : host.Ghosts H) (f : 
   pub made : Told s g old → texts_in (g.files new) ++ (new_run.outgoing.gathered.made ++ made_by (ahead next new_run (s.unread new))) ≡ texts_in (g.files old) ++ (old_run.outgoing.gathered.made ++ made_by (ahead f old_run (s.unread old)))
   pub commits : s.tells → next.commits + length (made_by (ahead next new_run (s.unread new))) ≡ f.commits + length (made_by (ahead f old_run (s.unread old)))
   pub count : s.tells → KeepsRoom (input_left old_run.reader (s.unread old)) (input_left new_run.reader (s.unread new))
-  pub due : Told s g old → (due : List ℕ → List ℕ) (start : Moment) → IsDue g due start f old_run old → IsDue g due start next new_run new
+  pub due : Told s g old → (due : Due) (start : Moment) → IsDue g due start f old_run old → IsDue g due start next new_run new
 
 -- The run has something ahead of it again, with which it goes on.
 pub record HasNext {T H : Type 0} (t : turns.Ghosts T) (s : source.Ghosts H) (g : host.Ghosts H) (f : Future) (old_run : Running T) (old : H) (new_run : Running T) (new : H) : Type 0 where
@@ -110,15 +112,15 @@ pub record HasNext {T H : Type 0} (t : turns.Ghosts T) (s : source.Ghosts H) (g 
   pub goes_on : GoesOn s g f old_run old future new_run new
 
 -- A part of a run that has this ahead of it: whatever it ends with, a prefix of what was left to be told was written, and a crash
--- at each moment leaves a log of what was logged and a front of what was left to be logged. What is due is written before input is asked
--- for. Where it doesn't stop, the run goes on.
+-- at each moment leaves a log of what was logged and a front of what was left to be logged. What is due is written and logged before
+-- input is asked for. Where it doesn't stop, the run goes on.
 pub record Follows {R T H : Type 0} (t : turns.Ghosts T) (s : source.Ghosts H) (g : host.Ghosts H) (f : Future) (old_run : Running T) (old : H) (new_run : Running T) (new : H) (result : Result R Stop) : Type 0 where
   pub next : OnOk result (HasNext t s g f old_run old new_run new)
   pub telling : Told s g old → (least : ℕ) (before : List ℕ) → IsTelling least before g old_run.outgoing old → OnOk result (IsTelling least before g new_run.outgoing new)
   pub front : s.tells → WritesPrefix (g.written old) (g.written new) (old_run.outgoing.gathered.told ++ told_by (ahead f old_run (s.unread old)))
   pub moments : Told s g old → (least : ℕ) (before : List ℕ) → IsTelling least before g old_run.outgoing old
       → Since (IsHeld least (texts_in (g.files old) ++ (old_run.outgoing.gathered.made ++ made_by (ahead f old_run (s.unread old)))) before) (g.history old) (g.history new)
-  pub prompt : Told s g old → (due : List ℕ → List ℕ) (start : Moment) → IsDue g due start f old_run old → Since (IsPrompt due start) (g.history old) (g.history new)
+  pub prompt : Told s g old → (due : Due) (start : Moment) → IsDue g due start f old_run old → Since (IsOnTime due start) (g.history old) (g.history new)
   pub ends : TakesTurns s g old new result
 
 -- so it is whatever is ahead of the run

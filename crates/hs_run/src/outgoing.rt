@@ -6,7 +6,7 @@ ghost use Rattle.hs_host.specs.Used.{Moves, Told, UsesOutput};
 ghost use Rattle.hs_log.specs.Log.{IsLog, epoch_in};
 ghost use Rattle.hs_run.specs.Crash.{texts_in};
 ghost use Rattle.hs_run.specs.Holding.{IsHandedOver, WritesPrefix};
-ghost use Rattle.hs_run.specs.Outgoing.{HandsOn, failing, IsLogging, IsServing, marked};
+ghost use Rattle.hs_run.specs.Outgoing.{HandsOn, IsEmpty, failing, IsLogging, IsServing, marked};
 ghost use Rattle.hs_run.specs.Prompt.{AsksNothing};
 ghost use Rattle.hs_run.specs.Stop.{DiskStops, NoFaults, RunStops};
 
@@ -72,8 +72,7 @@ impl Outgoing {
         ensures unasked { AsksNothing H.Source H.Host.own host.old host.new }
         ensures unread { H.unread host.new ≡ H.unread host.old }
         ensures done { H.tells → OnOk result (H.written host.new ≡ H.written host.old ++ self.old.gathered.told) }
-        ensures empty { OnOk result (self.new.gathered.told ≡ []) }
-        ensures logged { OnOk result (self.new.gathered.made ≡ []) }
+        ensures empty { OnOk result (IsEmpty self.new.gathered) }
         ensures short { IsErrOf result Stop.TooLong → ⊥ }
     {
         if let Err(stop) = self.log_made(host) {

@@ -1,5 +1,5 @@
 // A run at work.
-ghost use Rattle.std.specs.Prelude.{◌≡◌, ◌<◌, ◌≤◌, [], None, true, false, IfOk, IsErrOf, OnOk};
+ghost use Rattle.std.specs.Prelude.{◌≡◌, ◌<◌, ◌≤◌, None, true, false, IfOk, IsErrOf, OnOk};
 ghost use Rattle.hs_entries.specs.Left.{IsBeyond};
 ghost use Rattle.hs_entries.specs.Asking.{Asks};
 ghost use Rattle.hs_entries.specs.Reader.{AgreesWith, has_ended, is_ready as is_ready_at, is_ready_with, kept, left, rests as rests_at, room};
@@ -8,6 +8,7 @@ ghost use Rattle.hs_entries.specs.Calls.{HasInputCause};
 ghost use Rattle.hs_host.specs.Used.{UsesInput};
 ghost use Rattle.hs_run.specs.Future.{Future};
 ghost use Rattle.hs_run.specs.Items.{IsTaken, is_end};
+ghost use Rattle.hs_run.specs.Outgoing.{IsEmpty};
 ghost use Rattle.hs_run.specs.Running.{EndsWithin, HasNoneAhead, IsOver, IsReading, IsSameReader, IsSane, MovesOn};
 
 use crate::lawful::may_be_taken;
@@ -68,7 +69,7 @@ impl<T: Turns> Running<T> {
         ensures moves { MovesOn T.Turns H.Source H.Host.own self.old host.old self.new host.new result }
         ensures turns { self.new.turns ≡ self.old.turns }
         ensures reader { IsSameReader self.old.reader self.new.reader }
-        ensures ready { OnOk result (is_ready_at self.new.reader ≡ false → self.new.outgoing.gathered.told ≡ []) }
+        ensures ready { OnOk result (is_ready_at self.new.reader ≡ false → IsEmpty self.new.outgoing.gathered) }
         ensures unread { H.unread host.new ≡ H.unread host.old }
         ensures short { IsErrOf result Stop.TooLong → ⊥ }
     {
@@ -82,7 +83,7 @@ impl<T: Turns> Running<T> {
     fn advance<H: Host>(&mut self, host: &mut H) -> Result<bool, Stop>
         requires sane { (f : Future) × IsSane T.Turns H.Source H.Host.own f self.old host.old }
         requires rests { T.rests self.old.turns }
-        requires ready { is_ready_at self.old.reader ≡ false → self.old.outgoing.gathered.told ≡ [] }
+        requires ready { is_ready_at self.old.reader ≡ false → IsEmpty self.old.outgoing.gathered }
         requires reading { IsReading H.Source self.old host.old }
         ensures moves { MovesOn T.Turns H.Source H.Host.own self.old host.old self.new host.new result }
         ensures reading { OnOk result (IsReading H.Source self.new host.new) }

@@ -9,7 +9,7 @@ ghost use Rattle.hs_run.specs.Future.{Future};
 ghost use Rattle.hs_run.specs.Holding.{WritesPrefix};
 ghost use Rattle.hs_run.specs.Outgoing.{Closes, IsServing, Opens};
 ghost use Rattle.hs_run.specs.Pieces.{made_by, transcript, transcript_within};
-ghost use Rattle.hs_run.specs.Prompt.{AsksNothing, IsPrompt, due_for};
+ghost use Rattle.hs_run.specs.Prompt.{AsksNothing, IsOnTime, due_of};
 ghost use Rattle.hs_run.specs.Running.{IsBeginning, pieces};
 ghost use Rattle.hs_run.specs.Used.{TakesTurns};
 
@@ -33,8 +33,9 @@ const MOST_INPUT: u64 = 1 << 30;
 ///
 /// Whatever this ends with, what was written is a front of the transcript, and a crash at each moment leaves a log of the texts
 /// that were there and a front of those that turns make, with all commits that were told by then. Before more of the input is
-/// asked for, all was written that comes with the items that are whole in what was taken of it. After an `Ok` the input was
-/// read to its end, the whole transcript was written, and the log has all texts.
+/// asked for, all was written that comes with the items that are whole in what was taken of it, and whatever a crash leaves there
+/// is a log of the texts that were there and of all that come with these items. After an `Ok` the input was read to its end, the
+/// whole transcript was written, and the log has all texts.
 ///
 /// `Input`, `Output` and `Disk` come only where a call of that device failed, `NoMemory` is free, and `TooLong` comes only
 /// where the input has more than 2^30 bytes: then all was written that comes with its items up to there.
@@ -51,7 +52,7 @@ pub fn take_turns<H: Host, T: Turns + Drop>(
     ensures read { H.tells → OnOk result ((H.unread host.new ≡ []) × (length (H.unread host.old) ≤ 2 ^ 30)) }
     ensures log { (f : Future) → IsBeginning T.Turns H.Source H.Host.own f turns log host.old → Told H.Source H.Host.own host.old → OnOk result (IsWholeLog 1 (texts_in (H.files host.old) ++ made_by (pieces f (items 1 (H.unread host.old)))) (H.files host.new).log) }
     ensures moments { (f : Future) → IsBeginning T.Turns H.Source H.Host.own f turns log host.old → Told H.Source H.Host.own host.old → Since (IsHeld (length (texts_in (H.files host.old))) (texts_in (H.files host.old) ++ made_by (pieces f (items 1 (H.unread host.old)))) (H.written host.old)) (H.history host.old) (H.history host.new) }
-    ensures prompt { (f : Future) → IsBeginning T.Turns H.Source H.Host.own f turns log host.old → Told H.Source H.Host.own host.old → Since (IsPrompt (due_for f) (H.history host.old).now) (H.history host.old) (H.history host.new) }
+    ensures prompt { (f : Future) → IsBeginning T.Turns H.Source H.Host.own f turns log host.old → Told H.Source H.Host.own host.old → Since (IsOnTime (due_of (texts_in (H.files host.old)) f) (H.history host.old).now) (H.history host.old) (H.history host.new) }
     ensures ends { TakesTurns H.Source H.Host.own host.old host.new result }
 {
     let mut outgoing = Outgoing {

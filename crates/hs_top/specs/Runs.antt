@@ -8,7 +8,7 @@ use Rattle.hs_program.specs.Damaged as damaged
 use Rattle.hs_program.specs.Meaning.{Opened}
 use Rattle.hs_program.specs.Opening as opening
 use Rattle.hs_run.specs.Pieces.{told_by}
-use Rattle.hs_run.specs.Prompt.{due_for}
+use Rattle.hs_run.specs.Prompt.{due_for, logged_for}
 use Rattle.hs_run.specs.Running.{pieces}
 use Rattle.hs_turns.specs.Histories.{History}
 use Rattle.hs_turns.specs.Language.{Language}
@@ -53,6 +53,10 @@ module _ (log : List ℕ) (opened : Opened) where
   -- item which isn't whole in them.
   abbrev pub due : List ℕ → List ℕ
   due = due_for (program.ahead sql_meaning log opened)
+
+  -- What is due in the log then: its texts, and those of the commits of all turns before that one.
+  abbrev pub due_log : List ℕ → List (List ℕ)
+  due_log = logged_for (opening.texts_at log) (program.ahead sql_meaning log opened)
 
   module _ (input : List ℕ) where
     -- all that is written

@@ -15,9 +15,9 @@ ghost use Rattle.hs_program.specs.Run.{HasLog};
 ghost use Rattle.hs_program.specs.Stop.{TellsDamage, is_damaged};
 ghost use Rattle.hs_run.specs.Crash.{IsLater, OnlyLog};
 ghost use Rattle.hs_run.specs.Holding.{WritesPrefix};
-ghost use Rattle.hs_run.specs.Prompt.{IsPrompt};
+ghost use Rattle.hs_run.specs.Prompt.{IsPrompt, IsPromptlyLogged};
 ghost use Rattle.hs_run.specs.Stop.{NoFaults};
-ghost use Rattle.hs_top.specs.Runs.{Gives, GivesOne, IsDamaged, IsDamagedOnly, Violates, ViolatesOnly, after_commits, all_turns, commit_texts, due, ended, history, language, transcript, transcript_within, turns_lines, turns_told};
+ghost use Rattle.hs_top.specs.Runs.{Gives, GivesOne, IsDamaged, IsDamagedOnly, Violates, ViolatesOnly, after_commits, all_turns, commit_texts, due, due_log, ended, history, language, transcript, transcript_within, turns_lines, turns_told};
 ghost use Rattle.hs_turns.specs.Histories.{state};
 ghost use Rattle.hs_turns.specs.Laws.{is_item};
 ghost use Rattle.hs_turns.specs.Lines.{printed, replies_among};
@@ -51,7 +51,8 @@ use std::alloc::Global;
 /// changed, whatever the status is.
 ///
 /// Before more of the input is asked for, all lines are written that the machine tells before its first turn that needs an item which
-/// isn't whole in what was taken of the input by then.
+/// isn't whole in what was taken of the input by then. A crash there leaves a log that has the commits that were found and those of
+/// these turns, no fewer and no more.
 ///
 /// Where anything was written, and at `Done` and `InputTooLong`, the commits of the log make one database alone, and the log is neither
 /// damaged nor invalid. Where the status names a damage or a violated constraint, the log gives no database and has no
@@ -72,7 +73,7 @@ pub fn run<H: Host>(alloc: Global, words: &Words, host: &mut H) -> Status
     ensures untouched { result ≡ Status.Usage → host.new ≡ host.old }
     ensures name { (result ≡ Status.Usage → ⊥) → (result ≡ Status.NoMemory → ⊥) → (H.standing host.new).name ≡ database_of words.now }
 
-    // What is written.
+    // What is written, and what is logged where input is asked for.
     ensures front { H.tells → IsHonest (H.standing host.old) → (opened : Opened) → Gives (H.files host.old).log opened → WritesPrefix (H.written host.old) (H.written host.new) (transcript (H.files host.old).log opened (H.unread host.old)) }
     ensures opened_first { H.tells → IsHonest (H.standing host.old) → (¬ (H.written host.new ≡ H.written host.old)) ⊎ ((result ≡ Status.Done) ⊎ (result ≡ Status.InputTooLong)) → (opened : Opened) × Gives (H.files host.old).log opened }
     ensures opened_alone { H.tells → IsHonest (H.standing host.old) → (¬ (H.written host.new ≡ H.written host.old)) ⊎ ((result ≡ Status.Done) ⊎ (result ≡ Status.InputTooLong)) → GivesOne (H.files host.old).log }
@@ -82,6 +83,7 @@ pub fn run<H: Host>(alloc: Global, words: &Words, host: &mut H) -> Status
     ensures too_long { H.tells → result ≡ Status.InputTooLong → 2 ^ 30 < length (H.unread host.old) }
     ensures before_too_long { H.tells → IsHonest (H.standing host.old) → (opened : Opened) → Gives (H.files host.old).log opened → result ≡ Status.InputTooLong → H.written host.new ≡ H.written host.old ++ transcript_within (H.files host.old).log opened (H.unread host.old) (2 ^ 30) }
     ensures prompt { H.tells → IsHonest (H.standing host.old) → (opened : Opened) → Gives (H.files host.old).log opened → Since (IsPrompt (due (H.files host.old).log opened) (H.history host.old).now) (H.history host.old) (H.history host.new) }
+    ensures prompt_log { H.tells → IsHonest (H.standing host.old) → (opened : Opened) → Gives (H.files host.old).log opened → Since (IsPromptlyLogged (due_log (H.files host.old).log opened) (H.history host.old).now) (H.history host.old) (H.history host.new) }
 
     // The turns of the machine, and what the models of transactions promise after any number of them.
     ensures turns { (opened : Opened) → turns_told (H.files host.old).log opened (H.unread host.old) ≡ printed (turns_lines (H.files host.old).log opened (H.unread host.old)) }

@@ -1,5 +1,6 @@
 use Rattle.std.proofs.Common.{inr, refl}
 use Rattle.hs_host.specs.Used.{Told}
+use Rattle.hs_host.proofs.Passing.{since_weaker}
 use Rattle.hs_program.specs.declared.damage.Damage.TheVariants.{Log, Invalid}
 use Rattle.hs_program.specs.declared.status.Status.TheVariants.{Usage}
 use Rattle.hs_program.specs.Run.{Runs}
@@ -36,7 +37,10 @@ pub returns-in_default-clause-others : goal.returns-in_default-clause-others
 returns-in_default-clause-others g c = λ tells honest. (idle g (goal.at.returns-in_default-clause-others g c).In_default (record { tells = tells; honest = honest })).others
 
 pub returns-in_default-clause-prompt : goal.returns-in_default-clause-prompt
-returns-in_default-clause-prompt g c = λ tells honest. (idle g (goal.at.returns-in_default-clause-prompt g c).In_default (record { tells = tells; honest = honest })).prompt
+returns-in_default-clause-prompt g c = λ tells honest opened is. since_weaker ((idle g (goal.at.returns-in_default-clause-prompt g c).In_default (record { tells = tells; honest = honest })).prompt opened is) (λ m on. on.told)
+
+pub returns-in_default-clause-prompt_log : goal.returns-in_default-clause-prompt_log
+returns-in_default-clause-prompt_log g c = λ tells honest opened is. since_weaker ((idle g (goal.at.returns-in_default-clause-prompt_log g c).In_default (record { tells = tells; honest = honest })).prompt opened is) (λ m on. on.made)
 
 pub returns-in_default-clause-crash : goal.returns-in_default-clause-crash
 returns-in_default-clause-crash g c = λ tells honest. (idle g (goal.at.returns-in_default-clause-crash g c).In_default (record { tells = tells; honest = honest })).crash
@@ -114,7 +118,10 @@ pub returns-clause-others : goal.returns-clause-others
 returns-clause-others g c = λ tells honest. (c.serve.ensures.runs (record { tells = tells; honest = honest })).others
 
 pub returns-clause-prompt : goal.returns-clause-prompt
-returns-clause-prompt g c = λ tells honest. (c.serve.ensures.runs (record { tells = tells; honest = honest })).prompt
+returns-clause-prompt g c = λ tells honest opened is. since_weaker ((c.serve.ensures.runs (record { tells = tells; honest = honest })).prompt opened is) (λ m on. on.told)
+
+pub returns-clause-prompt_log : goal.returns-clause-prompt_log
+returns-clause-prompt_log g c = λ tells honest opened is. since_weaker ((c.serve.ensures.runs (record { tells = tells; honest = honest })).prompt opened is) (λ m on. on.made)
 
 pub returns-clause-crash : goal.returns-clause-crash
 returns-clause-crash g c = λ tells honest. (c.serve.ensures.runs (record { tells = tells; honest = honest })).crash

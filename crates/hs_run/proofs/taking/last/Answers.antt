@@ -2,6 +2,7 @@ use Rattle.std.proofs.Common.{◌≡◌, ℕ, List, ap, refl, subst}
 use Rattle.hs_run.specs.declared.outgoing.Outgoing.{Outgoing}
 use Rattle.hs_run.specs.Outgoing.{HandsOn, failing}
 use Rattle.hs_run.proofs.Ends.{closes_by, closes_wanting}
+use Rattle.hs_run.proofs.Stops.{ok_weaker}
 use Rattle.hs_run.proofs.taking.last.Goals as goal
 
 pub returns-in-Err-clause-closes : goal.returns-in-Err-clause-closes
@@ -15,4 +16,4 @@ returns-in-Err-clause-closes g c =
 pub returns-clause-closes : goal.returns-clause-closes
 returns-clause-closes g c =
     closes_by g.H.Source g.H.Host c.args.commits c.args.outgoing.now _ c.hand_over.new.self c.args.host.now c.hand_over.new.host c.hand_over.result refl refl c.in_default.ensures.ok c.requires.serving.within
-    c.hand_over.ensures.hands c.hand_over.ensures.done c.hand_over.ensures.logged
+    c.hand_over.ensures.hands c.hand_over.ensures.done (ok_weaker c.hand_over.result (λ none. none.made) c.hand_over.ensures.empty)

@@ -5,7 +5,8 @@ use Rattle.hs_run.specs.declared.stop.Stop.{Stop}
 use Rattle.hs_run.specs.Future.{Future}
 use Rattle.hs_run.specs.Outgoing.{Opens}
 use Rattle.hs_run.specs.Running.{Follows, IsBeginning, IsOver, IsSane, MovesOn}
-use Rattle.hs_run.specs.Prompt.{due_for}
+use Rattle.hs_run.specs.Crash.{texts_in}
+use Rattle.hs_run.specs.Prompt.{due_of}
 use Rattle.hs_run.proofs.Moving.{moves_on}
 use Rattle.hs_run.proofs.Prompt.{unasked_prompt}
 use Rattle.hs_run.proofs.Stops.{any_ok, long_of}
@@ -25,7 +26,7 @@ returns-in_err-open-clause-front g c = λ f begins.
     (runs_opening g.T.Turns g.H.Source g.H.Host f c.args.turns c.args.log c.args.host.now begins (nothing_yet g at) c.open.new.outgoing c.open.new.host _ opens c.in_err-open.ensures.unasked).front
 
 pub returns-in_err-open-clause-prompt : goal.returns-in_err-open-clause-prompt
-returns-in_err-open-clause-prompt g c = λ f begins told. unasked_prompt (due_for f) (g.H.Host.history c.args.host.now).now (c.in_err-open.ensures.unasked told)
+returns-in_err-open-clause-prompt g c = λ f begins told. unasked_prompt (due_of (texts_in (g.H.Host.files c.args.host.now)) f) (g.H.Host.history c.args.host.now).now (c.in_err-open.ensures.unasked told)
 
 -- the run behind the first line
 abbrev begun : (g : _) (c : After-new-2 g) → Running g.row.T.Denot

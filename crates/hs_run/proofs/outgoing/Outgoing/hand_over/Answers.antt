@@ -5,6 +5,7 @@ use Rattle.hs_run.specs.declared.stop.Stop.TheVariants.{TooLong}
 use Rattle.hs_host.proofs.Used.{told_on}
 use Rattle.hs_run.proofs.Handing.{hands_standing, hands_all}
 use Rattle.hs_run.proofs.Prompt.{unasked_file, unasked_on}
+use Rattle.hs_run.proofs.Stops.{any_ok}
 use Rattle.hs_run.proofs.outgoing.Outgoing.hand_over.Goals as goal
 use Rattle.hs_run.proofs.outgoing.Outgoing.hand_over.Goals.{In-Err}
 
@@ -31,6 +32,9 @@ returns-clause-unasked g c = λ told. unasked_on (unasked_file (c.in_default.ens
 
 pub returns-in-Err-clause-short : goal.returns-in-Err-clause-short
 returns-in-Err-clause-short g c = λ is. let same : c.hand_over_standing.result ≡ TooLong = cc in c.hand_over_standing.ensures.short c.args.host.now c.in-Err.ensures.stops same
+
+pub returns-clause-empty : goal.returns-clause-empty
+returns-clause-empty g c = any_ok c.flush.result (record { told = c.flush.ensures.empty; made = c.in_default.ensures.made })
 
 pub returns-clause-hands : goal.returns-clause-hands
 returns-clause-hands g c =
