@@ -7,10 +7,13 @@ use Rattle.hs_language.specs.Sql.{is_valid}
 use Rattle.hs_plainsql.specs.Naming.{are_named}
 use Rattle.hs_program.specs.Lawful.{IsSound}
 use Rattle.hs_program.specs.Meaning.{Opened}
+use Rattle.hs_run.specs.Items.{AreTold}
 use Rattle.hs_run.specs.Pieces.{told_by}
 use Rattle.hs_run.specs.Running.{pieces}
 use Rattle.hs_seams.specs.Stores.{IsWorld}
-use Rattle.hs_system.proofs.Lawful.{world_opened}
+use Rattle.hs_system.specs.Meaning.{state_of}
+use Rattle.hs_system.proofs.Ahead.{answered as answered_in}
+use Rattle.hs_system.proofs.Lawful.{sound_state, world_opened}
 use Rattle.hs_turns.specs.Histories.{state}
 use Rattle.hs_turns.specs.Laws.{is_item}
 use Rattle.hs_turns.specs.Lines.{printed, replies_among}
@@ -22,7 +25,7 @@ use Rattle.hs_turns.proofs.Ends.{over}
 use Rattle.hs_turns.proofs.Owed.{run_told}
 use Rattle.hs_turns.proofs.Promised as promised
 use Rattle.hs_engine.specs.Meets.{sql_governed}
-use Rattle.hs_engine.specs.Runs.{history_over, language_over, lines_over, world_over}
+use Rattle.hs_engine.specs.Runs.{answers_among, history_over, language_over, lines_over, world_over}
 use Rattle.hs_engine.specs.Sql.{IsRegular, sql_system}
 use Rattle.hs_engine.specs.Standing.{sql_meaning}
 
@@ -45,6 +48,10 @@ module _ (opened : Opened) (size : ℕ) (items : List Item) where
   module _ (s : IsSound sql_meaning opened) where
     world : IsWorld (world_over opened size)
     world = world_opened are_named IsRegular sql_system sql_governed opened size s
+
+    -- each item of an input is answered once
+    pub answered : AreTold items → (number : ℕ) → answers_among number (lines_over opened size items) ≡ count_by (is_item number) items
+    answered are number = answered_in are_named IsRegular sql_system sql_governed s.reached.0 (state_of opened) opened.commits size (sound_state are_named IsRegular sql_system sql_governed opened s) items are number
 
     module _ (n : ℕ) where
       pub serial : EachEnded (history_over opened size items n) (IsSerial (language_over opened size) opened.database)

@@ -1,4 +1,5 @@
--- Runs of SQL over what the texts of a log made, where that log has so many bytes before the one that ends it.
+-- Runs of SQL over what the texts of a log made, where that log has so many bytes before the one that ends it. And how many of
+-- their lines answer an item.
 use Rattle.std.specs.Prelude.{ℕ, List}
 use Rattle.hs_entries.specs.declared.item.Item.{Item}
 use Rattle.hs_program.specs.Meaning.{Opened}
@@ -12,6 +13,7 @@ use Rattle.hs_turns.specs.Lines.{Line}
 use Rattle.hs_turns.specs.Machine.{start}
 use Rattle.hs_turns.specs.Turns.{lines, weight}
 use Rattle.hs_engine.specs.Sql.{sql_system}
+pub use Rattle.hs_system.specs.Answers.{answers_among}
 
 module _ (opened : Opened) (size : ℕ) where
   abbrev pub world_over : World

@@ -3,7 +3,7 @@
 ghost use Rattle.std.specs.Prelude.{◌≡◌, ℕ, true, List, count_by};
 ghost use Rattle.hs_conditions.specs.Texts.{checks};
 ghost use Rattle.hs_engine.specs.Conditions.{has_condition};
-ghost use Rattle.hs_engine.specs.Runs.{history_over, language_over, lines_over};
+ghost use Rattle.hs_engine.specs.Runs.{answers_among, history_over, language_over, lines_over};
 ghost use Rattle.hs_engine.specs.Sql.{IsRegular, sql_system};
 ghost use Rattle.hs_engine.specs.Standing.{sql_meaning};
 ghost use Rattle.hs_entries.specs.declared.item.Item.{Item};
@@ -12,6 +12,7 @@ ghost use Rattle.hs_logged.specs.Over.{TestsTexts};
 ghost use Rattle.hs_plainsql.specs.Naming.{are_named};
 ghost use Rattle.hs_program.specs.Lawful.{IsSound};
 ghost use Rattle.hs_program.specs.Meaning.{Opened};
+ghost use Rattle.hs_run.specs.Items.{AreTold};
 ghost use Rattle.hs_run.specs.Pieces.{told_by};
 ghost use Rattle.hs_run.specs.Running.{pieces};
 ghost use Rattle.hs_system.specs.Governed.{IsGoverned};
@@ -35,10 +36,12 @@ pub fn sql_is_a_database_system()
 {}
 
 /// A run of SQL over what texts made is that of the machine of turns: what is ahead of it tells the lines of its turns. Among these
-/// each item of the input has one reply, so at the end nobody waits.
+/// each item of the input has one reply, so at the end nobody waits. Where the items are such as an input has, and no constraint was
+/// violated when the run began, each has one line that begins with `ok` or `refused` behind its session.
 pub fn a_run_of_sql_is_that_of_the_machine()
     ensures told { (opened : Opened) (size : ℕ) (items : List Item) → told_by (pieces (sql_meaning.future opened size) items) ≡ printed (lines_over opened size items) }
     ensures replied { (opened : Opened) (size : ℕ) (items : List Item) (number : ℕ) → replies_among number (lines_over opened size items) ≡ count_by (is_item number) items }
+    ensures answered { (opened : Opened) (size : ℕ) (items : List Item) (number : ℕ) → IsSound sql_meaning opened → AreTold items → answers_among number (lines_over opened size items) ≡ count_by (is_item number) items }
 {}
 
 /// Such a run keeps what the models of transactions promise, after any number of turns, where no constraint was violated when it

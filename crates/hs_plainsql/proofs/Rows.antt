@@ -8,7 +8,7 @@ use Rattle.hs_valuetext.specs.Values.{value_text}
 use Rattle.hs_rowtext.specs.Rows.{behind_comma as comma_text, others_text}
 use Rattle.hs_turns.specs.Each.{Each}
 use Rattle.hs_language.specs.Words.{row_words}
-use Rattle.hs_plainwords.specs.Plain.{IsPlainText}
+use Rattle.hs_plainwords.specs.Plain.{IsPlainRow}
 use Rattle.hs_plainwords.proofs.Silent.{Silent, plain, unnumbered}
 use Rattle.hs_plainsql.proofs.Bytes.{behind_comma, closed, second}
 use Rattle.hs_plainsql.proofs.Values.{IsShown, shown}
@@ -36,6 +36,6 @@ row_silent : (row : List Value) → Silent (row_words row)
 row_silent [] = unnumbered (codes "row ") refl refl
 row_silent (value ∷ row) = subst Silent (append_assoc (codes "row ") (value_text value) (others_text row)) (others (codes "row " ++ value_text value) row (first (value_text value) (shown value)))
 
-pub rows_plain : (rows : List (List Value)) → Each IsPlainText (map row_words rows)
+pub rows_plain : (rows : List (List Value)) → Each IsPlainRow (map row_words rows)
 rows_plain [] = tt
-rows_plain (row ∷ rows) = (plain (row_words row) (row_silent row), rows_plain rows)
+rows_plain (row ∷ rows) = (record { plain = plain (row_words row) (row_silent row); other = refl }, rows_plain rows)

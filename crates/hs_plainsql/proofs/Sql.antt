@@ -37,6 +37,7 @@ use Rattle.hs_plainsql.specs.Readings.{IsPlainReading}
 use Rattle.hs_plainsql.proofs.Catalogues.{SingleName, SingleText, after_named, first_single, named_single}
 use Rattle.hs_plainsql.proofs.Changes.{DefineNothing, delete_defines, insert_defines, update_defines}
 use Rattle.hs_plainsql.proofs.Names.{count_plain, fault_plain, long_row_plain, violation_plain}
+use Rattle.hs_plainsql.proofs.Replies.{given_ends}
 use Rattle.hs_plainsql.proofs.Rows.{rows_plain}
 
 abbrev Named : Database → Type 0
@@ -173,6 +174,7 @@ module _ (r : Reading) (its : IsPlainReading r) where
     request = its.request;
     refusal = λ read_only db text why good named e. refusals read_only db text why good named (r.plan db.things text) refl e;
     outcome = λ read_only inserted db text good named. outcomes_plain r inserted db named (r.plan db.things text);
+    answered = λ read_only inserted db text asks none. given_ends r inserted db read_only (r.plan db.things text) (λ p is. its.kind db.things text p asks is) none;
     refused = λ db text why good named e. subst Defines e (defines_by db text good named (r.plan db.things text) refl);
     defined = λ db text definition good named e. after_named db.things definition (db.count + 1) named (subst Defines e (defines_by db text good named (r.plan db.things text) refl));
   }

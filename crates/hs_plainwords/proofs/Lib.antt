@@ -1,3 +1,4 @@
+pub mod Answered
 pub mod Attempts
 pub mod Bytes
 pub mod Keeps

@@ -1,9 +1,9 @@
 -- Texts and lines that tell of no commit, and those that tell of one.
-use Rattle.std.proofs.Common.{◌≡◌, inl, inr, ℕ, ◌<◌, ◌≤◌, ◌^◌, true, false, List, [], ◌∷◌, ◌++◌, map, length, codes, refl, sym, ap, subst, ◌∙◌, arith, append_assoc, append-nil}
+use Rattle.std.proofs.Common.{◌≡◌, inl, inr, ℕ, ◌<◌, ◌≤◌, ◌^◌, ◌==◌, ◌&&◌, ◌||◌, Bool, true, false, List, [], ◌∷◌, ◌++◌, map, length, codes, refl, sym, ap, subst, ◌∙◌, arith, append_assoc, append-nil}
 use Rattle.std.specs.Prelude.{None, Some}
 use Rattle.std.specs.Fmt.{decimal}
 use Rattle.std.specs.Str.Parse.{digits_value}
-use Rattle.std.proofs.lemmas.Bool.{and_from, and_parts, cases_lt}
+use Rattle.std.proofs.lemmas.Bool.{and_from, and_parts, both_ways, cases_lt}
 use Rattle.std.proofs.lemmas.Fmt.{decimal_is_IsNumeral_wide}
 use Rattle.std.specs.List.{list_all}
 use Rattle.hs_entries.specs.Entry.{is_in_word, is_letter, is_session}
@@ -13,8 +13,9 @@ use Rattle.hs_machine.specs.Lines.{committed_text}
 use Rattle.hs_machine.proofs.Acknowledged.{all_lack, decimal_lacks, lacks-append, last_alone}
 use Rattle.hs_schema.specs.Catalogue.{Text}
 use Rattle.hs_turns.specs.Each.{Each}
-use Rattle.hs_turns.specs.Lines.{Words, RowOf, Replies, First, WaitsFor, OfItem, EndOf, listed}
-use Rattle.hs_plainwords.specs.Plain.{IsPlainText, IsUpTo, IsPlainLine}
+use Rattle.hs_turns.specs.Lines.{Words, RowOf, Replies, First, WaitsFor, OfItem, EndOf, is_reply, listed, replies_to, words_text}
+use Rattle.hs_plainwords.specs.Answers.{answers_to, begins_with, is_final}
+use Rattle.hs_plainwords.specs.Plain.{IsPlainText, IsPlainRow, IsUpTo, IsPlainLine}
 use Rattle.hs_plainwords.proofs.Bytes.{begins_digit, behind_colon, committed_lacks, last_behind, no_number, other_word, told_number}
 
 -- behind a space a line can end in this text, and tells of no commit
@@ -79,12 +80,43 @@ listed_silent (name ∷ next ∷ more) all =
 
 -- ---- what is told of an entry
 
+-- a reply, where its end is that of the line
+pub record IsPlainReply (text : Text) : Type 0 where
+  pub plain : IsPlainText text
+  pub final : is_final text ≡ true
+
 abbrev pub IsPlainWords : Words → Type 0
-IsPlainWords (RowOf row) = IsPlainText row
-IsPlainWords (Replies text None) = IsPlainText text
-IsPlainWords (Replies text (Some n)) = lacks 10 text ≡ true
+IsPlainWords (RowOf row) = IsPlainRow row
+IsPlainWords (Replies text None) = IsPlainReply text
+IsPlainWords (Replies text (Some n)) = (lacks 10 text ≡ true) × (is_final text ≡ true)
 IsPlainWords (First n) = Unit {0}
 IsPlainWords (WaitsFor names) = IsPlainText (codes "waits for " ++ listed names)
+
+-- ---- how it begins
+
+begins_more : (front text more : Text) → begins_with front text ≡ true → begins_with front (text ++ more) ≡ true
+begins_more [] text more h = refl
+begins_more (b ∷ front) [] more h = absurd cc
+begins_more (b ∷ front) (c ∷ text) more h = let parts = and_parts (b == c) (begins_with front text) h in and_from (b == c) (begins_with front (text ++ more)) parts.0 (begins_more front text more parts.1)
+
+either : (a b c d : Bool) → (a ≡ true → c ≡ true) → (b ≡ true → d ≡ true) → (a || b) ≡ true → (c || d) ≡ true
+either true b true d first second h = refl
+either true b false d first second h = absurd (both_ways false refl (first refl))
+either false true true d first second h = refl
+either false true false d first second h = second refl
+either false false c d first second h = absurd cc
+
+final_more : (text more : Text) → is_final text ≡ true → is_final (text ++ more) ≡ true
+final_more text more h =
+    either (begins_with (codes "ok") text) (begins_with (codes "refused") text) (begins_with (codes "ok") (text ++ more)) (begins_with (codes "refused") (text ++ more))
+    (begins_more (codes "ok") text more) (begins_more (codes "refused") text more) h
+
+final_replies : (words : Words) → IsPlainWords words → is_final (words_text words) ≡ is_reply words
+final_replies (RowOf row) its = its.other
+final_replies (Replies text None) its = final_more text [] its.final
+final_replies (Replies text (Some n)) its = final_more text (committed_text n) its.1
+final_replies (First n) its = refl
+final_replies (WaitsFor names) its = refl
 
 decimal_least : (m n : ℕ) → n < 10 ^ 64 → decimal m ≡ decimal n → n ≤ m
 decimal_least m n small same = elim (cases_lt m (10 ^ 64)) [
@@ -114,18 +146,31 @@ module _ (number : ℕ) (session : Text) (clean : lacks 10 session ≡ true) whe
   telling_item : (text before : Text) (k n : ℕ) → n < 10 ^ 64 → front ++ codes ": " ++ (text ++ committed_text k) ≡ before ++ committed_text n → n ≤ k
   telling_item text before k n small e = decimal_least k n small (told_number (front ++ codes ": " ++ text) before k n (append_assoc (front ++ codes ": ") text (committed_text k) ∙ e))
 
+  answered : (words : Words) → IsPlainWords words → (n : ℕ) → answers_to n (OfItem number session words) ≡ replies_to n (OfItem number session words)
+  answered words its n = ap (λ (b : Bool). (number == n) && b) (final_replies words its)
+
   pub plain_item : (words : Words) → IsPlainWords words → IsPlainLine (OfItem number session words)
-  plain_item (RowOf row) its = record { single = item_lacks row its.single; told = λ before n small e. absurd (silent_item row before n its e) }
-  plain_item (Replies text None) its = record { single = item_lacks (text ++ []) (lacks-append 10 text [] its.single refl); told = λ before n small e. absurd (silent_item text before n its (ap (λ (l : Text). front ++ codes ": " ++ l) (sym (append-nil text)) ∙ e)) }
+  plain_item (RowOf row) its = record { single = item_lacks row its.plain.single; told = λ before n small e. absurd (silent_item row before n its.plain e); answers = answered (RowOf row) its }
+  plain_item (Replies text None) its = record {
+    single = item_lacks (text ++ []) (lacks-append 10 text [] its.plain.single refl);
+    told = λ before n small e. absurd (silent_item text before n its.plain (ap (λ (l : Text). front ++ codes ": " ++ l) (sym (append-nil text)) ∙ e));
+    answers = answered (Replies text None) its;
+  }
   plain_item (Replies text (Some k)) its = record {
-    single = item_lacks (text ++ committed_text k) (lacks-append 10 text (committed_text k) its (committed_lacks 10 refl refl k));
+    single = item_lacks (text ++ committed_text k) (lacks-append 10 text (committed_text k) its.0 (committed_lacks 10 refl refl k));
     told = λ before n small e. only k n (telling_item text before k n small e);
+    answers = answered (Replies text (Some k)) its;
   }
   plain_item (First k) its = record {
     single = item_lacks (codes "first" ++ committed_text k) (lacks-append 10 (codes "first") (committed_text k) refl (committed_lacks 10 refl refl k));
     told = λ before n small e. only k n (telling_item (codes "first") before k n small e);
+    answers = answered (First k) its;
   }
-  plain_item (WaitsFor names) its = record { single = item_lacks (codes "waits for " ++ listed names) its.single; told = λ before n small e. absurd (silent_item (codes "waits for " ++ listed names) before n its e) }
+  plain_item (WaitsFor names) its = record {
+    single = item_lacks (codes "waits for " ++ listed names) its.single;
+    told = λ before n small e. absurd (silent_item (codes "waits for " ++ listed names) before n its e);
+    answers = answered (WaitsFor names) its;
+  }
 
   pub plain_items : (words : List Words) → Each IsPlainWords words → Each IsPlainLine (map (OfItem number session) words)
   plain_items [] all = tt
@@ -137,4 +182,5 @@ plain_end session clean =
     record {
       single = lacks-append 10 opening (codes ": rolled back") (lacks-append 10 (codes "end ") session refl clean) refl;
       told = λ before n small e. let found = behind_colon opening (codes " rolled back") before n e in absurd (no_number (codes ": rolled back") found.0 n refl found.1);
+      answers = λ n. refl;
     }

@@ -24,7 +24,7 @@ use Rattle.hs_turns.proofs.Follows.{Follows, attempts, leaves}
 use Rattle.hs_turns.proofs.Numbered.{run_tells}
 use Rattle.hs_plainwords.specs.Dialects.{IsPlainDialect}
 use Rattle.hs_plainwords.specs.Plain.{IsPlainLine, IsPlainReason, IsUpTo, are_called, is_called}
-use Rattle.hs_plainwords.proofs.Attempts.{ArePlain, attempt_plain, named_called}
+use Rattle.hs_plainwords.proofs.Attempts.{ArePlain, attempt_plain, named_called, told_why}
 use Rattle.hs_plainwords.proofs.Keeps as keeps
 use Rattle.hs_plainwords.proofs.Named.{Named, begun_named}
 use Rattle.hs_plainwords.proofs.Printed.{whole_lines}
@@ -144,7 +144,7 @@ module _ (is_named : Things → Bool) (d : Dialect) (its : IsPlainDialect is_nam
   more_names name m called fit = record { history = fit.history; names = each_append IsCalled m.names (name ∷ []) fit.names (called, tt); seen = fit.seen; pass = fit.pass; queue = fit.queue; items = fit.items }
 
   refused_tells : (number : ℕ) (name why : Text) (m : Machine) → lacks 10 name ≡ true → IsPlainReason why → Fit m → Tells (record { lines = OfItem number name (Replies (refused_words why) None) ∷ []; next = m })
-  refused_tells number name why m single reason fit = record { fit = fit; plain_ = (plain_item number name single (Replies (refused_words why) None) reason, tt) }
+  refused_tells number name why m single reason fit = record { fit = fit; plain_ = (plain_item number name single (Replies (refused_words why) None) (told_why why reason), tt) }
 
   session_tells : (found : Option ℕ) (number : ℕ) (name statement : Text) (m : Machine) → is_session name ≡ true → is_utf8 (whole_text name statement) ≡ true → Fit m → Tells (of_session d opening made found number name statement m)
   session_tells (Some s) number name statement m called good fit = admits_tells (record { number = number; session = s; text = whole_text name statement }) good (is_waiting s m.seen) m fit
@@ -231,6 +231,9 @@ module _ (is_named : Things → Bool) (d : Dialect) (its : IsPlainDialect is_nam
   pub one_plain : is_named opening.things ≡ true → (items : List Item) (n : ℕ) (t : Turned) → are_called items ≡ true → turn d opening made (after d opening made n (start opening items)) ≡ Some t → Each IsPlainLine t.lines
   one_plain named items n t called is = let m = after d opening made n (start opening items) in (subst TellsSome is (turn_tells m (after_fit n (start opening items) (start_fit named items called)))).plain_
 
+  pub all_plain : is_named opening.things ≡ true → (items : List Item) (n : ℕ) → are_called items ≡ true → Each IsPlainLine (lines d opening made n (start opening items))
+  all_plain named items n called = lines_plain n (start opening items) (start_fit named items called)
+
   -- ---- commits
 
   up_to : (most n : ℕ) (commits : List ℕ) → Each (λ k. k ≤ most) commits → IsUpTo commits n → n ≤ most
@@ -263,5 +266,5 @@ module _ (is_named : Things → Bool) (d : Dialect) (its : IsPlainDialect is_nam
   pub all_told : is_named opening.things ≡ true → (items : List Item) (n : ℕ) → are_called items ≡ true → AcknowledgesLines (printed (lines d opening made n (start opening items))) (made + length (after d opening made n (start opening items)).history.commits)
   all_told named items n called =
       let r = run_tells d opening made n (start opening items) in
-      whole_lines (lines d opening made n (start opening items)) (made + length (after d opening made n (start opening items)).history.commits) (lines_plain n (start opening items) (start_fit named items called))
+      whole_lines (lines d opening made n (start opening items)) (made + length (after d opening made n (start opening items)).history.commits) (all_plain named items n called)
       (told_least 0 r.0 (length (after d opening made n (start opening items)).history.commits) (commits_told (lines d opening made n (start opening items))) r.1.0 r.1.1)

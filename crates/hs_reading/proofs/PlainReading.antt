@@ -10,7 +10,7 @@ use Rattle.hs_entries.specs.Entry.{place_of, statement_of}
 use Rattle.hs_language.specs.Reading.{Reading}
 use Rattle.hs_nametext.specs.Names.{name_text}
 use Rattle.hs_plainsql.specs.Naming.{are_named, names_single}
-use Rattle.hs_plainsql.specs.Readings.{IsPlainReading}
+use Rattle.hs_plainsql.specs.Readings.{IsPlainReading, is_data}
 use Rattle.hs_plainsql.proofs.Names.{savepoint_plain}
 use Rattle.hs_plainwords.specs.Dialects.{IsPlainRequest}
 use Rattle.hs_plainwords.specs.Plain.{IsPlainReason}
@@ -22,10 +22,13 @@ use Rattle.hs_reading.proofs.Lawful.{lawful}
 use Rattle.hs_reading.proofs.SingleTrees.{name_single}
 use Rattle.hs_reading.proofs.Utf8.{statement_utf8}
 use Rattle.hs_reading.proofs.Words.{bind_plain, not_offered_plain, refusal_plain}
-use Rattle.hs_requests.specs.Plans.{in_words, plan_by, plan_of}
+use Rattle.hs_requests.specs.Plans.{goes_with, in_words, is_data as of_data, plan_by, plan_of}
 use Rattle.hs_requests.specs.Requests.{asked_by, request_by, request_of}
+use Rattle.hs_requests.proofs.Told.{kind as plan_kind}
 use Rattle.hs_schema.specs.Catalogue.{Text, Things}
 use Rattle.hs_statements.specs.Statements.{Answer}
+use Rattle.hs_turns.specs.Dialect.{Request}
+use Rattle.hs_turns.specs.Dialect.Request.{OfData}
 
 -- ---- requests
 
@@ -95,9 +98,25 @@ module _ (binds : BindsPlainly) where
   unfolding plan_of
   plans things text good named = plans_by things (place_of text) (statement_of text) (statement_utf8 text good) named (statement_in (statement_of text)) refl
 
+-- ---- kinds
+
+-- the plan of an entry that asks for data is of that kind
+data_kind : (request : Request) (p : Plan) → request ≡ OfData → goes_with request p ≡ true → of_data p ≡ true
+data_kind request p asks goes = subst (λ (r : Request). goes_with r p ≡ true) asks goes
+
+is_data_ : (p : Plan) → of_data p ≡ true → is_data p ≡ true
+is_data_ (plan.Query query) h = refl
+is_data_ (plan.Insert insert) h = refl
+is_data_ (plan.Update update) h = refl
+is_data_ (plan.Delete delete) h = refl
+is_data_ (plan.LockTable locked) h = refl
+is_data_ (plan.Define definition) h = h
+is_data_ (plan.Session statement) h = h
+
 pub reads_plainly : (r : Reading) → BindsPlainly → ((text : Text) → r.request text ≡ request_of text) → ((things : Things) (text : Text) → r.plan things text ≡ plan_of things text) → IsPlainReading r
 reads_plainly r binds request plan_is = record {
   request = λ text good. subst (IsPlainRequest name_text) (sym (request text)) (requests text good);
+  kind = λ things text p asks e. is_data_ p (data_kind (request_of text) p (sym (request text) ∙ asks) (plan_kind things text p (sym (plan_is things text) ∙ e)));
   refused = λ things text why good named e. subst Told (sym (plan_is things text) ∙ e) (plans binds things text good named);
   defined = λ things text definition good named e. subst Told (sym (plan_is things text) ∙ e) (plans binds things text good named);
 }

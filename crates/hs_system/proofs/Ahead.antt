@@ -1,6 +1,6 @@
--- What is ahead of a run in a system tells of no commit that isn't made.
+-- What is ahead of a run in a system tells of no commit that isn't made, and its lines answer each item.
 use Rattle.std.proofs.Common.{◌≡◌, ℕ, ◌+◌, ◌&&◌, true, List, [], ◌∷◌, length, refl, arith}
-use Rattle.std.specs.Prelude.{Bool, nat_le}
+use Rattle.std.specs.Prelude.{Bool, count_by, nat_le}
 use Rattle.std.specs.Str.{is_utf8}
 use Rattle.std.proofs.lemmas.Bool.{and_from, and_parts}
 use Rattle.hs_turns.specs.Database.{Database}
@@ -11,12 +11,15 @@ use Rattle.hs_futures.specs.Futures.{future_of}
 use Rattle.hs_futures.specs.Laws.{IsTold}
 use Rattle.hs_futures.proofs.Whole.{whole_true}
 use Rattle.hs_plainwords.specs.Plain.{are_called, is_called}
+use Rattle.hs_plainwords.proofs.Answered.{all_answered}
 use Rattle.hs_plainwords.proofs.Turns.{one_told}
 use Rattle.hs_logged.specs.Redone.{State}
 use Rattle.hs_run.specs.Items.{AreTold, is_told}
 use Rattle.hs_run.specs.Running.{IsTrue}
 use Rattle.hs_schema.specs.Catalogue.{Things}
+use Rattle.hs_turns.specs.Laws.{is_item}
 use Rattle.hs_turns.specs.Turns.{whole_text}
+use Rattle.hs_system.specs.Answers.{answers_among, lines_of}
 use Rattle.hs_system.specs.Governed.{IsGoverned}
 use Rattle.hs_system.specs.Openings.{IsSound, future_at, room_behind, world_of}
 use Rattle.hs_system.specs.System.{System}
@@ -48,3 +51,9 @@ module _ (is_named : Things → Bool) (Regular : Database → Type 0) (y : Syste
 
   pub is_true_ : (texts : List (List ℕ)) (at : State) (made size : ℕ) → IsSound y texts at → IsTrue (future_at y at made size)
   is_true_ texts at made size sound = whole_true (world_of y at made size) (told texts at made size sound)
+
+  pub answered : (texts : List (List ℕ)) (at : State) (made size : ℕ) → IsSound y texts at → (items : List Item) → AreTold items → (number : ℕ) → answers_among number (lines_of y at made size items) ≡ count_by (is_item number) items
+  answered texts at made size sound items are number =
+      let room = room_behind y at size in
+      let regular = g.regular at.database (made_regular is_named Regular y g texts at sound.made) in
+      all_answered is_named (y.dialect room) (g.language room).plain at.database made regular.named items number (called items are)

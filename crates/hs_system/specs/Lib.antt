@@ -1,3 +1,4 @@
+pub mod Answers
 pub mod Governed
 pub mod Meaning
 pub mod Openings

@@ -1,5 +1,6 @@
 // The top call.
 ghost use Rattle.std.specs.Prelude.{◌≡◌, ◌⊎◌, ◌↔◌, ℕ, ◌^◌, ◌<◌, ◌≤◌, [], ◌++◌, true, false, None, length, List, count_by};
+ghost use Rattle.hs_engine.specs.Runs.{answers_among};
 ghost use Rattle.hs_engine.specs.Standing.{sql_meaning};
 ghost use Rattle.hs_entries.specs.Items.{items};
 ghost use Rattle.hs_host.specs.Files.{IsUnnamed, IsOpen, IsForeign, IsHonest};
@@ -34,9 +35,10 @@ use std::alloc::Global;
 /// `hsql DATABASE`. The host has no name yet.
 ///
 /// Behind its first line the transcript has the lines of the turns of a machine, whose sessions hold claims and wait for each other by
-/// the model of transactions that the database has: LOCKS, MVLOCKS or MVCC. Each item of the input has one reply among them. After any
-/// number of turns, over a log that a run may begin with, a transaction has what the model promises that it ran under. Each commit is
-/// that of one transaction or a definition's, and leaves a valid database.
+/// the model of transactions that the database has: LOCKS, MVLOCKS or MVCC. Each item of the input has one reply among them. Over a log
+/// that a run may begin with, that is the item's one line that begins with `ok` or `refused` behind its session. After any number of
+/// turns over such a log, a transaction has what the model promises that it ran under. Each commit is that of one transaction or a
+/// definition's, and leaves a valid database.
 ///
 /// Under LOCKS, and under MVLOCKS where it may write, a transaction at REPEATABLE READ or SERIALIZABLE answers as if it ran alone on the
 /// commits just before its end, and its commit makes what its statements make there. So such transactions are as if they were run one at
@@ -88,6 +90,7 @@ pub fn run<H: Host>(alloc: Global, words: &Words, host: &mut H) -> Status
     // The turns of the machine, and what the models of transactions promise after any number of them.
     ensures turns { (opened : Opened) → turns_told (H.files host.old).log opened (H.unread host.old) ≡ printed (turns_lines (H.files host.old).log opened (H.unread host.old)) }
     ensures replied { (opened : Opened) (number : ℕ) → replies_among number (turns_lines (H.files host.old).log opened (H.unread host.old)) ≡ count_by (is_item number) (items 1 (H.unread host.old)) }
+    ensures answered { (opened : Opened) → Gives (H.files host.old).log opened → (number : ℕ) → answers_among number (turns_lines (H.files host.old).log opened (H.unread host.old)) ≡ count_by (is_item number) (items 1 (H.unread host.old)) }
     ensures serial { (opened : Opened) → Gives (H.files host.old).log opened → (n : ℕ) → EachEnded (history (H.files host.old).log opened (H.unread host.old) n) (IsSerial (language (H.files host.old).log opened) opened.database) }
     ensures in_order { (opened : Opened) → Gives (H.files host.old).log opened → (n : ℕ) → EachEnded (history (H.files host.old).log opened (H.unread host.old) n) (IsInOrder (language (H.files host.old).log opened) opened.database) }
     ensures committed { (opened : Opened) → Gives (H.files host.old).log opened → (n : ℕ) → EachEnded (history (H.files host.old).log opened (H.unread host.old) n) IsCommitted }
