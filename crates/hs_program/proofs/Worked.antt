@@ -159,7 +159,7 @@ module _ (m : Meaning) (law : IsLawful m) (files : Five (List ℕ)) (input befor
     safe = λ quiet opened is has. start_safe m law files opened input before start.now is quiet first;
     left = λ quiet opened is has. same_survives m law files.log opened input before before files.log is refl (same_gives m files.log files.log refl);
     begun = λ unborn. inl unborn;
-    alone = λ quiet. since_none _ start;
+    alone = since_none _ start;
     damaged = λ number is. absurd (idle_never status (Damaged (Log number)) idle refl is);
     damaged_alone = λ number is. absurd (idle_never status (Damaged (Log number)) idle refl is);
     damage = λ number is. idle_as status (Log number) idle;
@@ -228,7 +228,7 @@ module _ (m : Meaning) (law : IsLawful m) (files : Five (List ℕ)) (input befor
         safe = unopened_safe;
         left = λ quiet opened is has. left_now m files.log opened input before now.now out after.log (unopened_safe quiet opened is has) last leaves;
         begun = λ unborn. unborn_or_new m law files.log input before out after.log unborn told (begun unborn);
-        alone = λ quiet. preparing_later prepared;
+        alone = preparing_later prepared;
         damaged = λ number is. (damaged number (damaged_as why number is)).0;
         damaged_alone = λ number is. (damaged number (damaged_as why number is)).1;
         damage = damaged_told why refl;
@@ -297,7 +297,7 @@ module _ (m : Meaning) (law : IsLawful m) (files : Five (List ℕ)) (input befor
         safe = λ quiet o there has. subst (λ (x : Opened). IsSafe m files.log x input before now.now) (same o there) turned_safe;
         left = λ quiet o there has. subst (λ (x : Opened). Survives m files.log x input before out after.log) (same o there) turned_left;
         begun = λ unborn. inr (subst (λ (x : Opened). Survives m files.log x input before out after.log) (same (nothing_logged m) (unborn_gives m law files.log unborn)) turned_left);
-        alone = λ quiet. alone_on (preparing_later prepared) turned.alone;
+        alone = alone_on (preparing_later prepared) turned.alone;
         damaged = λ number damaged. hurt (ap is_damaged damaged);
         damaged_alone = λ number damaged. hurt (ap is_damaged damaged);
         damage = λ number there. whole number there;

@@ -74,7 +74,7 @@ pub record Runs (m : Meaning) (files : Five (List ℕ)) (input before : List ℕ
   pub safe : IsQuiet files start.now → (opened : Opened) → IsOpened m files.log opened → HasLog files.log status → IsSafe m files.log opened input before now.now
   pub left : IsQuiet files start.now → (opened : Opened) → IsOpened m files.log opened → HasLog files.log status → Survives m files.log opened input before out after.log
   pub begun : is_born files.log ≡ false → (is_born after.log ≡ false) ⊎ Survives m files.log (nothing_logged m) input before out after.log
-  pub alone : IsQuiet files start.now → Since (IsLater start.now) start now
+  pub alone : Since (IsLater start.now) start now
   pub damaged : (number : ℕ) → status ≡ Damaged (Log number) → IsDamagedAt m files.log number
   pub damaged_alone : (number : ℕ) → status ≡ Damaged (Log number) → IsDamagedAlone m files.log number
   pub damage : (number : ℕ) → IsDamagedAt m files.log number → TellsDamage (Log number) status

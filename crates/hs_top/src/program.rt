@@ -65,8 +65,8 @@ use std::alloc::Global;
 /// the machine behind so many commits. It has all commits that were acknowledged by then, and none of the run's own until the first
 /// line is written. Only while a log that wasn't born is being made may a crash leave another. The moment at which the run ends is a
 /// safe one too, but where the disk failed or memory was wanted over a log that wasn't born: then it still isn't born, or it is whole.
-/// On the disk no other file is touched. Where the log wasn't all on the disk at the call, as after a crash, all this is so from the
-/// first byte on that is written.
+/// Where the log wasn't all on the disk at the call, as after a crash, all this is so from the first byte on that is written. In no
+/// run is another file touched.
 pub fn run<H: Host>(alloc: Global, words: &Words, host: &mut H) -> Status
     requires { IsUnnamed (H.standing host.old) }
 
@@ -111,7 +111,7 @@ pub fn run<H: Host>(alloc: Global, words: &Words, host: &mut H) -> Status
     ensures safe { H.tells → IsHonest (H.standing host.old) → IsQuiet (H.files host.old) (H.history host.old).now → (opened : Opened) → Gives (H.files host.old).log opened → HasLog (H.files host.old).log result → IsSafe sql_meaning (H.files host.old).log opened (H.unread host.old) (H.written host.old) (H.history host.new).now }
     ensures left { H.tells → IsHonest (H.standing host.old) → IsQuiet (H.files host.old) (H.history host.old).now → (opened : Opened) → Gives (H.files host.old).log opened → HasLog (H.files host.old).log result → Survives sql_meaning (H.files host.old).log opened (H.unread host.old) (H.written host.old) (H.written host.new) (H.files host.new).log }
     ensures begun { H.tells → IsHonest (H.standing host.old) → is_born (H.files host.old).log ≡ false → (is_born (H.files host.new).log ≡ false) ⊎ Survives sql_meaning (H.files host.old).log (nothing_logged sql_meaning) (H.unread host.old) (H.written host.old) (H.written host.new) (H.files host.new).log }
-    ensures alone { H.tells → IsHonest (H.standing host.old) → IsQuiet (H.files host.old) (H.history host.old).now → Since (IsLater (H.history host.old).now) (H.history host.old) (H.history host.new) }
+    ensures alone { H.tells → IsHonest (H.standing host.old) → Since (IsLater (H.history host.old).now) (H.history host.old) (H.history host.new) }
 
     // Faults of the devices.
     ensures input_fault { result ≡ Status.InputFault → Rose (H.input_faults host.old) (H.input_faults host.new) }
